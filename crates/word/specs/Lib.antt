@@ -1,0 +1,2 @@
+-- What the contracts of `word` cite.
+pub mod Word
