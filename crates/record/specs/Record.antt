@@ -1,7 +1,7 @@
 -- A record: page, offset, length, kind and value, as a row of bytes; what applying it to a page means.
 -- A log row is the 14 bytes of the record. An online row has 5 more: owner and number.
-use Prim.Native.Nat.{ℕ, _+_, _%_, _^_}
-use mathlib.Core.Bool.{Bool, cond, not, _&&_, _||_}
+use Prim.Native.Nat.{ℕ, _+_, _%_, _^_, min, max}
+use mathlib.Core.Bool.{Bool, true, false, cond, _&&_, _||_}
 use mathlib.Core.List.{List, [], _∷_, _++_}
 use lib.ListN.{length, getD, take, set, replicate}
 use lib.Dec.{eqb, leb, ltb}
@@ -89,6 +89,35 @@ committedOn p r = eqb (pageOf r) p && committed r
 
 abbrev pub ownedBy : ℕ → List ℕ → Bool
 ownedBy x r = eqb (ownerOf r) x
+
+-- a page's rows, or only its committed ones
+abbrev pub chosen : Bool → ℕ → List ℕ → Bool
+chosen true p r = committedOn p r
+chosen false p r = onPage p r
+
+-- an owner's rows, on all pages or on one
+abbrev pub gone : Bool → ℕ → ℕ → List ℕ → Bool
+gone true x p r = ownedBy x r
+gone false x p r = onPage p r && ownedBy x r
+
+-- the owner's rows numbered from k on, "in table order"
+unfoldable pub numberRows : ℕ → ℕ → List (List ℕ) → List (List ℕ)
+numberRows x k [] = []
+numberRows x k (r ∷ rs) = cond (ownedBy x r) (numbered r k ∷ numberRows x (k + 1) rs) (r ∷ numberRows x k rs)
+
+-- the smaller of two numbers, where 0 is none
+unfoldable pub lesser : ℕ → ℕ → ℕ
+lesser a b = cond (eqb a 0) b (min a b)
+
+-- the smallest number of rows, 0 if there is none; a is the smallest so far
+unfoldable pub smallest : ℕ → List (List ℕ) → ℕ
+smallest a [] = a
+smallest a (r ∷ rs) = smallest (lesser a (numberOf r)) rs
+
+-- the greatest number of rows; a is the greatest so far
+unfoldable pub greatest : ℕ → List (List ℕ) → ℕ
+greatest a [] = a
+greatest a (r ∷ rs) = greatest (max a (numberOf r)) rs
 
 -- two records share a byte: the same page, and neither ends before the other starts
 unfoldable pub shareByte : List ℕ → List ℕ → Bool
