@@ -1,0 +1,141 @@
+-- The lent bytes, durable and lost parts apart, and what they mean: docs/LAYOUT.md as definitions.
+use Prim.Native.Nat.{ℕ, _+_, _*_, _-_, _/_, _%_}
+use mathlib.Core.Bool.{Bool, not}
+use mathlib.Core.List.{List, _++_}
+use lib.ListN.{length, getD, take, set, replicate}
+use lib.Dec.{eqb}
+use Rattle.word.specs.Word.{num, put}
+use Rattle.record.specs.Part.{part, withPart}
+use Rattle.record.specs.Rows.{rows, table}
+
+-- "Durable: stored pages, a stamp for each page, L, the log, checkpoint number K, and a dirty table", and what format was given
+pub record Durable : Type 0 where
+  pub fixed : List ℕ
+  pub marks : List ℕ
+  pub log : List ℕ
+  pub stored : List ℕ
+
+-- "Lost on power loss: frames, page table, use order, online table, live set"
+pub record Lost : Type 0 where
+  pub tables : List ℕ
+  pub online : List ℕ
+  pub pool : List ℕ
+
+pub record Lent : Type 0 where
+  pub durable : Durable
+  pub lost : Lost
+
+abbrev pub lentOf : List ℕ → List ℕ → List ℕ → List ℕ → List ℕ → List ℕ → List ℕ → Lent
+lentOf fixed marks log stored tables online pool =
+    record {
+      durable = record { fixed = fixed; marks = marks; log = log; stored = stored };
+      lost = record { tables = tables; online = online; pool = pool }
+    }
+
+-- fixed: page size, pages, frames, online size, log size
+abbrev pub sizeOf : Lent → ℕ
+sizeOf s = num 4 (s .durable .fixed) 0
+
+abbrev pub pagesOf : Lent → ℕ
+pagesOf s = num 4 (s .durable .fixed) 4
+
+abbrev pub framesOf : Lent → ℕ
+framesOf s = num 4 (s .durable .fixed) 8
+
+abbrev pub roomOf : Lent → ℕ
+roomOf s = num 4 (s .durable .fixed) 12
+
+abbrev pub spanOf : Lent → ℕ
+spanOf s = num 4 (s .durable .fixed) 16
+
+-- marks: L, K, n, the stamps, the dirty numbers
+abbrev pub lastOf : Lent → ℕ
+lastOf s = num 4 (s .durable .marks) 0
+
+abbrev pub closedOf : Lent → ℕ
+closedOf s = num 4 (s .durable .marks) 4
+
+abbrev pub loggedOf : Lent → ℕ
+loggedOf s = num 4 (s .durable .marks) 8
+
+abbrev pub stampAt : ℕ → ℕ
+stampAt p = 12 + 4 * p
+
+abbrev pub dirtyAt : ℕ → ℕ → ℕ
+dirtyAt pages p = 12 + 4 * pages + 4 * p
+
+abbrev pub stampOf : Lent → ℕ → ℕ
+stampOf s p = num 4 (s .durable .marks) (stampAt p)
+
+abbrev pub dirtyOf : Lent → ℕ → ℕ
+dirtyOf s p = num 4 (s .durable .marks) (dirtyAt (pagesOf s) p)
+
+-- "its n records carry numbers L−n+1 to L"
+abbrev pub firstOf : Lent → ℕ
+firstOf s = lastOf s - loggedOf s + 1
+
+abbrev pub logOf : Lent → List (List ℕ)
+logOf s = rows 14 (loggedOf s) (s .durable .log) 0
+
+-- tables: m, u, the live set, the use order, the page entries
+abbrev pub countOf : Lent → ℕ
+countOf s = num 2 (s .lost .tables) 0
+
+abbrev pub usedOf : Lent → ℕ
+usedOf s = getD (s .lost .tables) 2 0
+
+abbrev pub liveAt : ℕ → ℕ
+liveAt x = 2 + x
+
+abbrev pub liveOf : Lent → ℕ → ℕ
+liveOf s x = getD (s .lost .tables) (liveAt x) 0
+
+abbrev pub orderOf : Lent → List ℕ
+orderOf s = part 35 (usedOf s) (s .lost .tables)
+
+abbrev pub entryAt : ℕ → ℕ → ℕ
+entryAt frames p = 35 + frames + p
+
+abbrev pub entryOf : Lent → ℕ → ℕ
+entryOf s p = getD (s .lost .tables) (entryAt (framesOf s) p) 0
+
+abbrev pub entriesOf : Lent → List ℕ
+entriesOf s = part (35 + framesOf s) (pagesOf s) (s .lost .tables)
+
+abbrev pub onlineOf : Lent → List (List ℕ)
+onlineOf s = rows 19 (countOf s) (s .lost .online) 0
+
+-- an entry: 0 absent, 1 evicted, 2 × (f + 1) clean in frame f, one more dirty there
+abbrev pub inFrame : ℕ → Bool
+inFrame e = not (eqb (e / 2) 0)
+
+abbrev pub frameOf : ℕ → ℕ
+frameOf e = e / 2 - 1
+
+abbrev pub isDirty : ℕ → Bool
+isDirty e = eqb (e % 2) 1
+
+abbrev pub cleanIn : ℕ → ℕ
+cleanIn f = 2 * (f + 1)
+
+abbrev pub dirtyIn : ℕ → ℕ
+dirtyIn f = 2 * (f + 1) + 1
+
+-- a page in the stored pages, a frame in the pool: the bytes of either
+abbrev pub pageIn : ℕ → ℕ → List ℕ → List ℕ
+pageIn size p l = part (p * size) size l
+
+abbrev pub withPage : ℕ → ℕ → List ℕ → List ℕ → List ℕ
+withPage size p l g = withPart (p * size) size l g
+
+-- the tables with another use order: its length, and its frames with zeros behind them
+abbrev pub withOrder : ℕ → List ℕ → List ℕ → List ℕ
+withOrder frames o t = set (withPart 35 frames t (take frames (o ++ replicate frames 0))) 2 (length o)
+
+-- the tables with other page entries
+abbrev pub withEntries : ℕ → ℕ → List ℕ → List ℕ → List ℕ
+withEntries frames pages es t = withPart (35 + frames) pages t es
+
+-- the tables with another count of online rows
+abbrev pub withCount : ℕ → List ℕ → List ℕ
+withCount m t = put 2 t 0 m

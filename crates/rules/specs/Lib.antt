@@ -1,0 +1,6 @@
+-- What a reader must believe of the store: its answers, the lent bytes and their views, sound tables, the steps, the calls.
+pub mod Answers
+pub mod Lent
+pub mod Sound
+pub mod Steps
+pub mod Calls
