@@ -2,5 +2,6 @@
 pub mod Answers
 pub mod Lent
 pub mod Sound
+pub mod Shape
 pub mod Steps
 pub mod Calls
