@@ -58,12 +58,9 @@ keep-turn : (b : Bool) (s : List ℕ) (k g : ℕ) → k < length s → take (k +
 keep-turn true s k g p = rw add-zero (take-set-le k s k g (le-refl k) ∙ sym (append-nil (take k s)))
 keep-turn false s k g p = rw add-one (take-suc-set s k g p)
 
-pub free-turn : (f : ℕ) (from s : List ℕ) (k i : ℕ) → i < length from → k < length s → take k s ≡ without f (take i from) → take (k + cond (eqb (getD from i 0) f) 0 1) (set s k (getD from i 0)) ≡ without f (take (i + 1) from)
-free-turn f from s k i p q e =
-    keep-turn (eqb (getD from i 0) f) s k (getD from i 0) q
-    ∙ ap (λ (l : List ℕ). l ++ cond (eqb (getD from i 0) f) [] (getD from i 0 ∷ [])) e
-    ∙ sym (without-last f (getD from i 0) (take i from))
-    ∙ ap (λ (l : List ℕ). without f l) (sym (take-suc from i 0 p) ∙ ap (λ (n : ℕ). take n from) (sym (add-one i)))
+pub free-turn : (f g r : ℕ) (from s : List ℕ) (k i : ℕ) → i < length from → k < length s → g ≡ getD from i 0 → r ≡ cond (eqb g f) 0 1 → take k s ≡ without f (take i from) → take (k + r) (set s k (getD from i 0)) ≡ without f (take (i + 1) from)
+free-turn f g r from s k i p q e₁ e₂ e =
+    rw (e₂, ← e₁, add-one i, take-suc from i 0 p, ← e₁, without-last, ← e) (keep-turn (eqb g f) s k g q)
 
 pub free-done : (f : ℕ) (from s : List ℕ) (n k i : ℕ) → i ≤ n → n ≤ i → take k s ≡ without f (take i from) → take k s ≡ without f (take n from)
 free-done f from s n k i p q e = let a : i ≡ n = omega arith in rw a at e
@@ -109,9 +106,9 @@ mark-at m f g b h e = go (eqb g f) refl
 
 mark-turn : (m : List Bool) (o : List ℕ) (g : ℕ) → Marks m o → Marks (set m g true) (o ++ (g ∷ []))
 mark-turn m o g w =
-    record
-    { long = length-set m g true ∙ w .long
-    ; tells = λ f h. mark-at m f g (named f o) (omega arith) (w .tells f h) ∙ sym (named-last f g o)
+    record {
+      long = length-set m g true ∙ w .long;
+      tells = λ f h. mark-at m f g (named f o) (omega arith) (w .tells f h) ∙ sym (named-last f g o);
     }
 
 pub marks-turn : (m : List Bool) (l : List ℕ) (i g : ℕ) → i < length l → g ≡ getD l i 0 → Marks m (take i l) → Marks (set m g true) (take (i + 1) l)

@@ -7,7 +7,6 @@ ghost use lib.ListN.{length, getD, take, replicate};
 ghost use lib.Dec.{eqb};
 ghost use Rattle.order.specs.Order.{named, without, touched, victim, frameFor};
 ghost use Rattle.order.specs.Meant.{listOf};
-
 use number::FrameNo;
 
 // The frames in use, the least recently used first: the first `used` slots.

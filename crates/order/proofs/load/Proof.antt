@@ -30,15 +30,15 @@ loop-less : tie.Need-loop-less Inv-loop μ-loop
 loop-less c = search needs
 
 loop-again : tie.Need-loop-again Inv-loop μ-loop
-loop-again c = 
-    (search needs,
-    search needs,
-    copy-turn (now (c .before .before .before .args .t)) (c .before .before .loop .slots) (c .before .before .loop .i) (search needs) (search needs) (c .before .before .loop .inv .2))
+loop-again c =
+    let o = c .before .before .loop in
+    (search needs, search needs, copy-turn (now (c .before .before .before .args .t)) (o .slots) (o .i) (search needs) (search needs) (o .inv .2))
 
 returns : tie.Need-returns Inv-loop μ-loop
-returns c = 
-    (copy-done (now (c .before .before .args .t)) (c .before .loop .slots) _ _ (c .before .loop .inv .0) (c .loop-test .left) (c .before .loop .inv .2),
-    refl)
+returns c =
+    let a = c .before .before .args in
+    let o = c .before .loop in
+    (copy-done (now (a .t)) (o .slots) (a .used) (o .i) (o .inv .0) (c .loop-test .left) (o .inv .2), refl)
 
 pub load-spec : {M : Type 1} → statement M
 load-spec =

@@ -2,9 +2,10 @@
 use Prim.Native.Nat.{_≤_, _<_, _-_}
 use native.Mathlib.Omega.{arith}
 use mathlib.Core.Path.{_≡_, sym, _∙_}
+use mathlib.Core.Bool.{true, false}
 use borrow.Author.Tests.{not-true, not-false}
 use borrow.Author.Needs.{needs}
-use Rattle.order.specs.Order.{frameFrom, frameFor}
+use Rattle.order.specs.Order.{named, frameFrom, frameFor}
 use Rattle.order.specs.Meant.{listOf}
 use Rattle.order.proofs.Laws.{frame-start, frame-turn, frame-found, frame-none}
 use Rattle.order.proofs.Order.frame_for.Statement.{statement}
@@ -26,11 +27,12 @@ array-read-if1 : tie.Need-array-read-if1 Inv-loop μ-loop
 array-read-if1 c = search needs
 
 returns : tie.Need-returns Inv-loop μ-loop
-returns c = 
+returns c =
     let a = c .before .before .before .before .args in
-    let f = c .before .before .loop .f in
-    let small : f < 256 = omega arith in
-    (frame-found (a .frames) f (listOf (a .self)) (c .before .loop-test .taken) (sym (c .before .before .before .marks .ensures f small) ∙ not-true _ (c .if1 .taken)) ∙ c .before .before .loop .inv .1, small)
+    let o = c .before .before .loop in
+    let small : o .f < 256 = omega arith in
+    let free : named (o .f) (listOf (a .self)) ≡ false = sym (c .before .before .before .marks .ensures (o .f) small) ∙ not-true _ (c .if1 .taken) in
+    (frame-found (a .frames) (o .f) (listOf (a .self)) (c .before .loop-test .taken) free ∙ o .inv .1, small)
 
 add-f : tie.Need-add-f Inv-loop μ-loop
 add-f c = search needs
@@ -39,17 +41,21 @@ loop-less : tie.Need-loop-less Inv-loop μ-loop
 loop-less c = search needs
 
 loop-again : tie.Need-loop-again Inv-loop μ-loop
-loop-again c = 
+loop-again c =
     let a = c .before .before .before .before .args in
-    let f = c .before .before .loop .f in
-    let small : f < 256 = omega arith in
-    (search needs, sym (frame-turn (a .frames) f (listOf (a .self)) (c .before .loop-test .taken) (sym (c .before .before .before .marks .ensures f small) ∙ not-false _ (c .if1 .left))) ∙ c .before .before .loop .inv .1)
+    let o = c .before .before .loop in
+    let small : o .f < 256 = omega arith in
+    let taken : named (o .f) (listOf (a .self)) ≡ true = sym (c .before .before .before .marks .ensures (o .f) small) ∙ not-false _ (c .if1 .left) in
+    (search needs, sym (frame-turn (a .frames) (o .f) (listOf (a .self)) (c .before .loop-test .taken) taken) ∙ o .inv .1)
 
 victim-requires : tie.Need-victim-requires Inv-loop μ-loop
 victim-requires c κs = search needs
 
 returns-2 : tie.Need-returns-2 Inv-loop μ-loop
-returns-2 c = (c .victim .ensures .0 ∙ frame-none (c .before .before .before .before .args .frames) (c .before .before .loop .f) (listOf (c .before .before .before .before .args .self)) (c .before .loop-test .left) ∙ c .before .before .loop .inv .1, c .victim .ensures .1)
+returns-2 c =
+    let a = c .before .before .before .before .args in
+    let o = c .before .before .loop in
+    (c .victim .ensures .0 ∙ frame-none (a .frames) (o .f) (listOf (a .self)) (c .before .loop-test .left) ∙ o .inv .1, c .victim .ensures .1)
 
 pub frame-for-spec : {M : Type 1} → statement M
 frame-for-spec =

@@ -1,10 +1,8 @@
 -- `Order::free` meets its contract: the slots kept are those passed, without the frame.
-use Prim.Native.Nat.{ℕ, _≤_, _-_}
+use Prim.Native.Nat.{_≤_, _-_}
 use native.Mathlib.Omega.{arith}
-use mathlib.Core.Path.{_≡_, refl, ap, _∙_}
-use mathlib.Core.Bool.{cond}
-use lib.ListN.{length, take, getD}
-use lib.Dec.{eqb}
+use mathlib.Core.Path.{_≡_, refl}
+use lib.ListN.{length, take}
 use borrow.Author.Needs.{needs}
 use Rattle.order.specs.Order.{without}
 use Rattle.order.proofs.Laws.{free-turn, free-done}
@@ -46,19 +44,21 @@ loop-less : tie.Need-loop-less Inv-loop μ-loop
 loop-less c = search needs
 
 loop-again : tie.Need-loop-again Inv-loop μ-loop
-loop-again c = 
+loop-again c =
     let a = c .before .before .before .before .before .args in
     let o = c .before .before .before .loop in
-    let long : length (a .self .slots) ≡ 65 = search needs in
-    let step : c .other .result ≡ cond (eqb (getD (a .self .slots) (o .i) 0) (a .f .0)) 0 1 =
-        c .other .ensures .0 ∙ ap (λ (g : ℕ). cond (eqb g (a .f .0)) 0 1) (c .before .number .ensures .0) in
-    (search needs,
-    search needs,
-    search needs,
-    rw step (free-turn (a .f .0) (a .self .slots) (o .slots) (o .kept) (o .i) (omega arith) (omega arith) (o .inv .3)))
+    let long : length (a .self .slots) ≡ 65 = search needs in (
+      search needs,
+      search needs,
+      search needs,
+      free-turn (a .f .0) (c .before .number .result) (c .other .result) (a .self .slots) (o .slots) (o .kept) (o .i) (omega arith) (omega arith) (c .before .number .ensures .0) (c .other .ensures .0) (o .inv .3),
+    )
 
 returns : tie.Need-returns Inv-loop μ-loop
-returns c = (free-done (c .before .before .before .args .f .0) (c .before .before .before .args .self .slots) (c .before .loop .slots) (c .before .before .before .args .self .used) (c .before .loop .kept) (c .before .loop .i) (search needs) (search needs) (c .before .loop .inv .3), search needs)
+returns c =
+    let a = c .before .before .before .args in
+    let o = c .before .loop in
+    (free-done (a .f .0) (a .self .slots) (o .slots) (a .self .used) (o .kept) (o .i) (o .inv .0) (c .loop-test .left) (o .inv .3), search needs)
 
 pub free-spec : {M : Type 1} → statement M
 free-spec =

@@ -33,13 +33,17 @@ loop-less : tie.Need-loop-less Inv-loop μ-loop
 loop-less c = search needs
 
 loop-again : tie.Need-loop-again Inv-loop μ-loop
-loop-again c = 
-    let long : length (c .before .before .before .before .args .self .slots) ≡ 65 = search needs in
-    (search needs,
-    marks-turn (c .before .before .loop .marks) (c .before .before .before .before .args .self .slots) (c .before .before .loop .i) (c .number .result) (omega arith) (c .number .ensures .0) (c .before .before .loop .inv .1))
+loop-again c =
+    let l = c .before .before .before .before .args .self .slots in
+    let o = c .before .before .loop in
+    let long : length l ≡ 65 = search needs in
+    (search needs, marks-turn (o .marks) l (o .i) (c .number .result) (omega arith) (c .number .ensures .0) (o .inv .1))
 
 returns : tie.Need-returns Inv-loop μ-loop
-returns c = marks-done (c .before .loop .marks) (c .before .before .before .args .self .slots) (c .before .before .before .args .self .used) (c .before .loop .i) (search needs) (search needs) (c .before .loop .inv .1)
+returns c =
+    let a = c .before .before .before .args in
+    let o = c .before .loop in
+    marks-done (o .marks) (a .self .slots) (a .self .used) (o .i) (o .inv .0) (c .loop-test .left) (o .inv .1)
 
 pub marks-spec : {M : Type 1} → statement M
 marks-spec =

@@ -32,16 +32,22 @@ loop-less : tie.Need-loop-less Inv-loop μ-loop
 loop-less c = search needs
 
 loop-again : tie.Need-loop-again Inv-loop μ-loop
-loop-again c = 
-    (search needs,
-    search needs,
-    save-turn (listOf (c .before .before .before .before .args .self)) (c .before .before .loop .t) (length (now (c .before .before .before .before .args .t))) (c .before .before .loop .i) (c .at .result) (search needs) (search needs) (c .at .ensures) (c .before .before .loop .inv .2))
+loop-again c =
+    let a = c .before .before .before .before .args in
+    let o = c .before .before .loop in (
+      search needs,
+      search needs,
+      save-turn (listOf (a .self)) (o .t) (length (now (a .t))) (o .i) (c .at .result) (search needs) (o .inv .1) (c .at .ensures) (o .inv .2),
+    )
 
 same-length : tie.Need-same-length Inv-loop μ-loop
 same-length c = search needs
 
 returns : tie.Need-returns Inv-loop μ-loop
-returns c = save-done (listOf (c .before .before .before .args .self)) (c .before .loop .t) (length (now (c .before .before .before .args .t))) (c .before .loop .i) (search needs) (search needs) (search needs) (c .before .loop .inv .2)
+returns c =
+    let a = c .before .before .before .args in
+    let o = c .before .loop in
+    save-done (listOf (a .self)) (o .t) (length (now (a .t))) (o .i) (search needs) (o .inv .0) (o .inv .1) (o .inv .2)
 
 pub save-spec : {M : Type 1} → statement M
 save-spec =

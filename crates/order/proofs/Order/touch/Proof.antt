@@ -21,7 +21,7 @@ add-t10 : tie.Need-add-t10
 add-t10 c = search needs
 
 returns : tie.Need-returns
-returns c = 
+returns c =
     let rest = c .before .before .free in
     let a = c .before .before .before .args in
     let long : length (rest .result .slots) ≡ 65 = search needs in
