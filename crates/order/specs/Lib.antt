@@ -1,2 +1,3 @@
 -- What the contracts of `order` cite.
 pub mod Order
+pub mod Meant
