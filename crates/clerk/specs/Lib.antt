@@ -1,0 +1,2 @@
+-- What the contracts of `clerk` cite.
+pub mod Rule
