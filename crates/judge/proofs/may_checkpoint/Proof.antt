@@ -1,0 +1,24 @@
+-- `judge::may_checkpoint` meets its contract: each return is the case of `mayCheckpoint` that its tests pick.
+use mathlib.Core.Path.{refl, ap, sym, _∙_}
+use mathlib.Core.Bool.{not}
+use borrow.Author.Needs.{needs}
+use borrow.Author.Tests.{eq-eqb, ne-eqb, lt-ltb, le-ltb}
+use Rattle.rules.specs.Calls.{mayCheckpoint}
+use Rattle.rules.proofs.Verdicts.{refused, passed}
+use Rattle.judge.proofs.Laws.{number-most, turned, same, unturned}
+use Rattle.judge.proofs.may_checkpoint.Statement.{statement}
+use Rattle.judge.proofs.may_checkpoint.Tie as tie
+
+are-parameters-requires : tie.Need-are-parameters-requires
+are-parameters-requires c κs = search needs
+
+returns : tie.Need-returns
+unfolding mayCheckpoint
+returns c = refused _ _ _ (turned _ _ _ (c .before .are-parameters .ensures) (c .if1 .taken))
+
+returns-2 : tie.Need-returns-2
+unfolding mayCheckpoint
+returns-2 c = passed _ _ _ _ (turned _ _ _ (c .before .are-parameters .ensures) (c .if1 .left)) refl
+
+pub may-checkpoint-spec : {M : Type 1} → statement M
+may-checkpoint-spec = tie.close (tie.spec are-parameters-requires returns returns-2)
