@@ -1,6 +1,6 @@
 -- What the test of the tables area is, and what it gives.
 use Prim.Native.Nat.{ℕ, _+_, _-_, _/_, _≤_}
-use mathlib.Core.Path.{_≡_, refl, sym, ap, _∙_}
+use mathlib.Core.Path.{_≡_, refl, sym, _∙_}
 use mathlib.Core.Bool.{Bool, true, false, _&&_, and-comm}
 use mathlib.Core.List.{List}
 use lib.ListN.{getD}
@@ -48,10 +48,10 @@ module _ (tables : List ℕ) (pages frames room : ℕ) (t : tablesTest tables pa
   unfolding tablesTest
   within =
       let h = all-six (leb (num 2 tables 0) room && leb (usedIn tables) frames) (every (λ (b : ℕ). leb b 1) (part 3 32 tables))
-          (every (λ (e : ℕ). leb (e / 2) frames) (entriesIn tables pages frames))
-          (upTo (λ (f : ℕ). leb (serving f (entriesIn tables pages frames)) 1) frames 0)
-          (every (λ (f : ℕ). ltb f frames) (orderIn tables) && upTo (λ (f : ℕ). eqb (times f (orderIn tables)) (serving f (entriesIn tables pages frames))) frames 0)
-          (zeros (part (35 + usedIn tables) (frames - usedIn tables) tables)) t in
+      (every (λ (e : ℕ). leb (e / 2) frames) (entriesIn tables pages frames))
+      (upTo (λ (f : ℕ). leb (serving f (entriesIn tables pages frames)) 1) frames 0)
+      (every (λ (f : ℕ). ltb f frames) (orderIn tables) && upTo (λ (f : ℕ). eqb (times f (orderIn tables)) (serving f (entriesIn tables pages frames))) frames 0)
+      (zeros (part (35 + usedIn tables) (frames - usedIn tables) tables)) t in
       let k = both (leb (num 2 tables 0) room) (leb (usedIn tables) frames) (h .0) in
       let o = both (every (λ (f : ℕ). ltb f frames) (orderIn tables)) (upTo (λ (f : ℕ). eqb (times f (orderIn tables)) (serving f (entriesIn tables pages frames))) frames 0) (h .4) in
       record {
@@ -62,7 +62,7 @@ module _ (tables : List ℕ) (pages frames room : ℕ) (t : tablesTest tables pa
         once = h .3;
         order = o .0;
         named = o .1;
-        tail = h .5
+        tail = h .5;
       }
 
   pub count-within : num 2 tables 0 ≤ room
@@ -95,10 +95,7 @@ shuffle false e o t a b = refl
 shuffle true false o t a b = refl
 shuffle true true false t true b = refl
 shuffle true true false t false b = refl
-shuffle true true true t a b = and-comm t (a && b) ∙ regroup a
-  where
-    regroup : (a : Bool) → (a && b && t) ≡ (a && (true && b) && t)
-    regroup a = refl
+shuffle true true true t a b = and-comm t (a && b)
 
 pub test-same : (tables : List ℕ) (pages frames room u : ℕ) (k l e o t s : Bool)
     → k ≡ (leb (num 2 tables 0) room && leb (getD tables 2 0) frames) → k ≡ true → u ≡ getD tables 2 0

@@ -5,10 +5,10 @@ use native.Mathlib.Numerals.{add-one}
 use mathlib.Core.Path.{_≡_, refl, sym, ap, _∙_}
 use mathlib.Core.Bool.{Bool, true, false, cond, _&&_}
 use mathlib.Core.List.{List, [], _∷_}
-use lib.ListN.{length, getD, take, drop, set, replicate, length-set, length-replicate, getD-replicate, drop-of-length-le}
+use lib.ListN.{length, getD, drop, set, replicate, length-set, length-replicate, getD-replicate, drop-of-length-le}
 use lib.Seq.{drop-cons, getD-set-same, getD-set-other}
 use lib.Dec.{eqb, leb, ltb}
-use borrow.Author.Tests.{ltb-true, ltb-false, leb-true, leb-false, eqb-true, eqb-false, lt-ltb, le-ltb, le-leb, lt-leb, eq-eqb, ne-eqb}
+use borrow.Author.Tests.{ltb-true, ltb-false, eqb-true, eqb-false, le-leb, lt-leb, eq-eqb, ne-eqb}
 use Rattle.word.specs.Word.{num}
 use Rattle.record.specs.Part.{part}
 use Rattle.record.specs.Rows.{keep, consIf}
@@ -108,7 +108,7 @@ pub tally-none : (halved : Bool) (l : List ℕ) → Tallying halved l 0 (replica
 tally-none halved l =
     record {
       size = length-replicate {A = ℕ} 256 0;
-      slot = λ k h. let e : getD {A = ℕ} (replicate 256 0) k 0 ≡ 0 = getD-replicate {A = ℕ} 256 k 0 0 h in omega arith
+      slot = λ k h. let e : getD {A = ℕ} (replicate 256 0) k 0 ≡ 0 = getD-replicate {A = ℕ} 256 k 0 0 h in omega arith;
     }
 
 slot-turn : (t : Bool) (a : List ℕ) (k j c d n : ℕ) → eqb k j ≡ t → k < length a → getD a j 0 + c ≡ n → c ≡ cond t 1 0 + d → getD (set a k (getD a k 0 + 1)) j 0 + d ≡ n
@@ -126,7 +126,7 @@ tally-turn halved l i a k h e p t =
       size = length-set a k (getD a k 0 + 1) ∙ t .size;
       slot = λ j q.
           slot-turn (eqb (keyOf halved (getD l i 0)) j) a k j (count halved j (drop i l)) (count halved j (drop (i + 1) l)) (count halved j l)
-          (ap (λ (x : ℕ). eqb x j) e) (omega (arith, t .size)) (t .slot j q) (count-turn halved j l i h)
+          (ap (λ (x : ℕ). eqb x j) e) (omega (arith, t .size)) (t .slot j q) (count-turn halved j l i h);
     }
 
 pub tally-room : (halved : Bool) (l : List ℕ) (i : ℕ) (a : List ℕ) (k : ℕ) → k < 256 → Tallying halved l i a → getD a k 0 ≤ length l

@@ -1,5 +1,5 @@
 -- How many bytes of a list have a key, for each key: of a page entry its half, of a place of the order the byte itself.
-use Prim.Native.Nat.{ℕ, _+_, _/_, _<_}
+use Prim.Native.Nat.{ℕ, _/_, _<_}
 use mathlib.Core.Bool.{Bool, true, false}
 use mathlib.Core.Path.{_≡_}
 use mathlib.Core.List.{List}

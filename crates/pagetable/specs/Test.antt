@@ -25,5 +25,5 @@ tablesTest tables pages frames room =
     && every (λ (e : ℕ). leb (e / 2) frames) (entriesIn tables pages frames)
     && upTo (λ (f : ℕ). leb (serving f (entriesIn tables pages frames)) 1) frames 0
     && (every (λ (f : ℕ). ltb f frames) (orderIn tables)
-        && upTo (λ (f : ℕ). eqb (times f (orderIn tables)) (serving f (entriesIn tables pages frames))) frames 0)
+    && upTo (λ (f : ℕ). eqb (times f (orderIn tables)) (serving f (entriesIn tables pages frames))) frames 0)
     && zeros (part (35 + usedIn tables) (frames - usedIn tables) tables)

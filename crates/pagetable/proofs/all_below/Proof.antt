@@ -28,7 +28,7 @@ wide-requires : tie.Need-wide-requires Inv-loop μ-loop
 wide-requires c κs = search needs
 
 returns : tie.Need-returns Inv-loop μ-loop
-returns c = 
+returns c =
     let a = c .before .before .before .before .before .before .args in
     every-fail (λ (b : ℕ). ltb b (a .end)) (now (a .s)) (c .before .before .before .before .loop .i)
     (c .before .before .before .loop-test .taken)
@@ -42,16 +42,17 @@ loop-less : tie.Need-loop-less Inv-loop μ-loop
 loop-less c = search needs
 
 loop-again : tie.Need-loop-again Inv-loop μ-loop
-loop-again c = 
-    let a = c .before .before .before .before .before .before .args in
-    (search needs,
-    every-pass (λ (b : ℕ). ltb b (a .end)) (now (a .s)) (c .before .before .before .before .loop .i)
-    (c .before .before .before .loop-test .taken)
-    (byte-test _ _ _ true (c .before .wide .ensures .0) (lt-ltb _ _ (c .if1 .left)))
-    (c .before .before .before .before .loop .inv .1))
+loop-again c =
+    let a = c .before .before .before .before .before .before .args in (
+      search needs,
+      every-pass (λ (b : ℕ). ltb b (a .end)) (now (a .s)) (c .before .before .before .before .loop .i)
+          (c .before .before .before .loop-test .taken)
+          (byte-test _ _ _ true (c .before .wide .ensures .0) (lt-ltb _ _ (c .if1 .left)))
+          (c .before .before .before .before .loop .inv .1),
+    )
 
 returns-2 : tie.Need-returns-2 Inv-loop μ-loop
-returns-2 c = 
+returns-2 c =
     let a = c .before .before .before .args in
     every-done (λ (b : ℕ). ltb b (a .end)) (now (a .s)) (c .before .loop .i) (c .loop-test .left) (c .before .loop .inv .1)
 

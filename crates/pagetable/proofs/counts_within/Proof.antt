@@ -15,7 +15,7 @@ wide-requires : tie.Need-wide-requires
 wide-requires c κs = search needs
 
 returns : tie.Need-returns
-returns c = 
+returns c =
     let a = c .before .before .before .before .args in
     counts-same (now (a .tables)) (a .frames) (a .room) _ _ (c .before .before .load .ensures .0) (c .wide .ensures .0)
 

@@ -36,7 +36,7 @@ element-copy-out-if1-2 : tie.Need-element-copy-out-if1-2 Inv-loop μ-loop
 element-copy-out-if1-2 c = search needs
 
 returns : tie.Need-returns Inv-loop μ-loop
-returns c = 
+returns c =
     let a = c .before .before .before .before .before .args in
     upTo-fail (λ (g : ℕ). eqb (getD (now (a .named)) g 0) (getD (now (a .served)) (g + 1) 0)) (a .frames) (c .before .before .before .before .loop .f)
     (c .before .before .before .loop-test .taken) (ne-eqb _ _ (c .if1 .taken)) (c .before .before .before .before .loop .inv .1)
@@ -48,14 +48,15 @@ loop-less : tie.Need-loop-less Inv-loop μ-loop
 loop-less c = search needs
 
 loop-again : tie.Need-loop-again Inv-loop μ-loop
-loop-again c = 
-    let a = c .before .before .before .before .before .args in
-    (search needs,
-    upTo-pass (λ (g : ℕ). eqb (getD (now (a .named)) g 0) (getD (now (a .served)) (g + 1) 0)) (a .frames) (c .before .before .before .before .loop .f)
-    (c .before .before .before .loop-test .taken) (eq-eqb _ _ (c .if1 .left)) (c .before .before .before .before .loop .inv .1))
+loop-again c =
+    let a = c .before .before .before .before .before .args in (
+      search needs,
+      upTo-pass (λ (g : ℕ). eqb (getD (now (a .named)) g 0) (getD (now (a .served)) (g + 1) 0)) (a .frames) (c .before .before .before .before .loop .f)
+          (c .before .before .before .loop-test .taken) (eq-eqb _ _ (c .if1 .left)) (c .before .before .before .before .loop .inv .1),
+    )
 
 returns-2 : tie.Need-returns-2 Inv-loop μ-loop
-returns-2 c = 
+returns-2 c =
     let a = c .before .before .args in
     upTo-done (λ (g : ℕ). eqb (getD (now (a .named)) g 0) (getD (now (a .served)) (g + 1) 0)) (a .frames) (c .before .loop .f) (c .loop-test .left) (c .before .loop .inv .1)
 

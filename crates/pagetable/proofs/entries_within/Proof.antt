@@ -32,7 +32,7 @@ all-below-requires : tie.Need-all-below-requires
 all-below-requires c κs = search needs
 
 returns : tie.Need-returns
-returns c = 
+returns c =
     let a = c .before .before .before .args in
     let k : length (now (a .tables)) - (35 + a .frames) ≡ a .pages = omega arith in
     below-part (λ (e : ℕ). leb (e / 2) (a .frames)) (now (a .tables)) (35 + a .frames) (length (now (a .tables))) (a .pages) (2 * a .frames + 2) _

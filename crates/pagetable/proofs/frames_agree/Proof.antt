@@ -18,7 +18,7 @@ each-named-requires : tie.Need-each-named-requires
 each-named-requires c κs = search needs
 
 returns : tie.Need-returns
-returns c = 
+returns c =
     let a = c .before .before .before .before .before .before .before .before .before .args in
     agree-same (now (a .entries)) (now (a .order)) (c .before .before .before .before .before .before .tally .result) (c .before .before .before .before .before .tally2 .result) (a .frames) _ _
     (c .before .before .before .before .before .before .before .before .before .pre .2)

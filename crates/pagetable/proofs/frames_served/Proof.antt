@@ -37,7 +37,7 @@ frames-agree-requires : tie.Need-frames-agree-requires
 frames-agree-requires c κs = search needs
 
 returns : tie.Need-returns
-returns c = 
+returns c =
     let a = c .before .before .before .before .args in
     let p : length (now (a .tables)) - (35 + a .frames) ≡ a .pages = omega arith in
     let q : 35 + a .u - 35 ≡ a .u = omega arith in

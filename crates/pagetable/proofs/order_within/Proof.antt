@@ -25,7 +25,7 @@ all-below-requires : tie.Need-all-below-requires
 all-below-requires c κs = search needs
 
 returns : tie.Need-returns
-returns c = 
+returns c =
     let a = c .before .before .before .args in
     let k : 35 + a .u - 35 ≡ a .u = omega arith in
     below-part (λ (f : ℕ). ltb f (a .frames)) (now (a .tables)) 35 (35 + a .u) (a .u) (a .frames) _ (λ b. refl) k (c .all-below .ensures)

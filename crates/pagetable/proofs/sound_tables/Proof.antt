@@ -26,28 +26,28 @@ entries-within-requires : tie.Need-entries-within-requires
 entries-within-requires c κs = search needs
 
 order-within-requires : tie.Need-order-within-requires
-order-within-requires c κs = 
+order-within-requires c κs =
     let a = c .before .before .before .before .before .before .before .args in
     let u : c .before .before .wide .result ≤ a .frames =
-        used-fits (now (a .tables)) (a .frames) (a .room) _ _ (c .before .before .before .before .before .counts-within .ensures) (not-false _ (c .before .before .before .before .if1 .left)) (c .before .before .wide .ensures .0) in
+    used-fits (now (a .tables)) (a .frames) (a .room) _ _ (c .before .before .before .before .before .counts-within .ensures) (not-false _ (c .before .before .before .before .if1 .left)) (c .before .before .wide .ensures .0) in
     search needs
 
 tail-clear-requires : tie.Need-tail-clear-requires
-tail-clear-requires c κs = 
+tail-clear-requires c κs =
     let a = c .before .before .before .before .before .before .before .before .args in
     let u : c .before .before .before .wide .result ≤ a .frames =
-        used-fits (now (a .tables)) (a .frames) (a .room) _ _ (c .before .before .before .before .before .before .counts-within .ensures) (not-false _ (c .before .before .before .before .before .if1 .left)) (c .before .before .before .wide .ensures .0) in
+    used-fits (now (a .tables)) (a .frames) (a .room) _ _ (c .before .before .before .before .before .before .counts-within .ensures) (not-false _ (c .before .before .before .before .before .if1 .left)) (c .before .before .before .wide .ensures .0) in
     search needs
 
 frames-served-requires : tie.Need-frames-served-requires
-frames-served-requires c κs = 
+frames-served-requires c κs =
     let a = c .before .before .before .before .before .before .before .before .before .args in
     let u : c .before .before .before .before .wide .result ≤ a .frames =
-        used-fits (now (a .tables)) (a .frames) (a .room) _ _ (c .before .before .before .before .before .before .before .counts-within .ensures) (not-false _ (c .before .before .before .before .before .before .if1 .left)) (c .before .before .before .before .wide .ensures .0) in
+    used-fits (now (a .tables)) (a .frames) (a .room) _ _ (c .before .before .before .before .before .before .before .counts-within .ensures) (not-false _ (c .before .before .before .before .before .before .if1 .left)) (c .before .before .before .before .wide .ensures .0) in
     search needs
 
 returns-2 : tie.Need-returns-2
-returns-2 c = 
+returns-2 c =
     let a = c .before .before .before .before .before .before .before .before .before .before .args in
     test-same (now (a .tables)) (a .pages) (a .frames) (a .room) _ _ _ _ _ _ _
     (c .before .before .before .before .before .before .before .before .counts-within .ensures) (not-false _ (c .before .before .before .before .before .before .before .if1 .left)) (c .before .before .before .before .before .wide .ensures .0)

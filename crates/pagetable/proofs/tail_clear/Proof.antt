@@ -27,7 +27,7 @@ all-below-requires : tie.Need-all-below-requires
 all-below-requires c κs = search needs
 
 returns : tie.Need-returns
-returns c = 
+returns c =
     let a = c .before .before .before .args in
     let k : 35 + a .frames - (35 + a .u) ≡ a .frames - a .u = omega arith in
     zeros-part (now (a .tables)) (35 + a .u) (35 + a .frames) (a .frames - a .u) _ k (c .all-below .ensures)

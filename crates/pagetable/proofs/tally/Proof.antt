@@ -2,7 +2,6 @@
 use Prim.Native.Nat.{_-_, _≤_}
 use native.Mathlib.Omega.{arith}
 use lib.ListN.{length}
-use denote.Ref.{now}
 use Rattle.pagetable.proofs.Loops.{Tallying, tally-none, tally-turn, tally-room, tally-done}
 use borrow.Author.Needs.{needs}
 use Rattle.pagetable.proofs.tally.Statement.{statement}
