@@ -1,0 +1,79 @@
+-- `pagetable::each_named` meets its contract: the frames still to be seen decide as much as all.
+use Prim.Native.Nat.{ℕ, _+_, _-_, _≤_}
+use mathlib.Core.Path.{_≡_}
+use lib.ListN.{getD}
+use lib.Dec.{eqb}
+use denote.Ref.{now}
+use borrow.Author.Tests.{eq-eqb, ne-eqb}
+use Rattle.rules.specs.Sound.{upTo}
+use Rattle.pagetable.proofs.Loops.{upTo-none, upTo-pass, upTo-fail, upTo-done}
+use borrow.Author.Needs.{needs}
+use Rattle.pagetable.proofs.each_named.Statement.{statement}
+use Rattle.pagetable.proofs.each_named.Tie as tie
+
+abbrev Inv-loop : tie.InvT-loop
+Inv-loop named served frames f₀ f = (f ≤ frames) × (upTo (λ (g : ℕ). eqb (getD named g 0) (getD served (g + 1) 0)) frames 0 ≡ upTo (λ (g : ℕ). eqb (getD named g 0) (getD served (g + 1) 0)) (frames - f) f)
+
+abbrev μ-loop : tie.MeasureT-loop
+μ-loop named served frames f₀ f = frames - f
+
+loop-holds : tie.Need-loop-holds Inv-loop μ-loop
+loop-holds c = (search needs, upTo-none _ _)
+
+mul-if1 : tie.Need-mul-if1 Inv-loop μ-loop
+mul-if1 c = search needs
+
+element-copy-out-if1 : tie.Need-element-copy-out-if1 Inv-loop μ-loop
+element-copy-out-if1 c = search needs
+
+add-if1 : tie.Need-add-if1 Inv-loop μ-loop
+add-if1 c = search needs
+
+mul-if1-2 : tie.Need-mul-if1-2 Inv-loop μ-loop
+mul-if1-2 c = search needs
+
+element-copy-out-if1-2 : tie.Need-element-copy-out-if1-2 Inv-loop μ-loop
+element-copy-out-if1-2 c = search needs
+
+returns : tie.Need-returns Inv-loop μ-loop
+returns c =
+    let a = c .before .before .before .before .before .args in
+    upTo-fail (λ (g : ℕ). eqb (getD (now (a .named)) g 0) (getD (now (a .served)) (g + 1) 0)) (a .frames) (c .before .before .before .before .loop .f)
+    (c .before .before .before .loop-test .taken) (ne-eqb _ _ (c .if1 .taken)) (c .before .before .before .before .loop .inv .1)
+
+add-f : tie.Need-add-f Inv-loop μ-loop
+add-f c = search needs
+
+loop-less : tie.Need-loop-less Inv-loop μ-loop
+loop-less c = search needs
+
+loop-again : tie.Need-loop-again Inv-loop μ-loop
+loop-again c =
+    let a = c .before .before .before .before .before .args in (
+      search needs,
+      upTo-pass (λ (g : ℕ). eqb (getD (now (a .named)) g 0) (getD (now (a .served)) (g + 1) 0)) (a .frames) (c .before .before .before .before .loop .f)
+          (c .before .before .before .loop-test .taken) (eq-eqb _ _ (c .if1 .left)) (c .before .before .before .before .loop .inv .1),
+    )
+
+returns-2 : tie.Need-returns-2 Inv-loop μ-loop
+returns-2 c =
+    let a = c .before .before .args in
+    upTo-done (λ (g : ℕ). eqb (getD (now (a .named)) g 0) (getD (now (a .served)) (g + 1) 0)) (a .frames) (c .before .loop .f) (c .loop-test .left) (c .before .loop .inv .1)
+
+pub each-named-spec : {M : Type 1} → statement M
+each-named-spec =
+    tie.close
+    (tie.spec
+    Inv-loop
+    μ-loop
+    loop-holds
+    mul-if1
+    element-copy-out-if1
+    add-if1
+    mul-if1-2
+    element-copy-out-if1-2
+    returns
+    add-f
+    loop-less
+    loop-again
+    returns-2)

@@ -1,0 +1,161 @@
+// The check of the `tables` area: counts, live set, page entries, use order. One pass over each part.
+ghost use mathlib.Core.Path.{_≡_};
+ghost use mathlib.Core.Bool.{_&&_};
+ghost use Prim.Native.Nat.{ℕ, _+_, _-_, _/_, _≤_, _<_};
+ghost use lib.ListN.{length, getD};
+ghost use lib.Dec.{eqb, leb, ltb};
+ghost use Rattle.word.specs.Word.{num};
+ghost use Rattle.record.specs.Part.{part};
+ghost use Rattle.rules.specs.Sound.{every, upTo, zeros, serving, times};
+ghost use Rattle.pagetable.specs.Test.{tablesTest};
+ghost use Rattle.pagetable.specs.Tally.{keyOf, Tallied};
+
+// Every byte is below the end.
+fn all_below(s: &[u8], end: usize) -> bool
+    ensures { λ r. ⌜ r ≡ every (λ (b : ℕ). ltb b end) (now (s .entry)) ⌝ }
+{
+    let mut i = 0;
+    while i < s.len() {
+        if end <= word::wide(s[i]) as usize {
+            return false;
+        }
+        i += 1;
+    }
+    true
+}
+
+// What a byte is counted under: an entry's half is its frame number and one, a place of the order is the frame number.
+fn key(b: u8, halved: bool) -> usize
+    ensures { λ r. ⌜ (r ≡ keyOf halved b) × (r < 256) ⌝ }
+{
+    if halved {
+        return word::wide(b / 2) as usize;
+    }
+    word::wide(b) as usize
+}
+
+// How many bytes have each key.
+fn tally(s: &[u8], halved: bool) -> [u16; 256]
+    requires { ⌜ length (now s) ≤ 1024 ⌝ }
+    ensures { λ r. ⌜ Tallied halved (now (s .entry)) r ⌝ }
+{
+    let mut a = [0u16; 256];
+    let mut i = 0;
+    while i < s.len() {
+        let k = key(s[i], halved);
+        a[k] += 1;
+        i += 1;
+    }
+    a
+}
+
+// No frame is counted twice.
+fn each_once(served: &[u16; 256], frames: usize) -> bool
+    requires { ⌜ frames ≤ 64 ⌝ }
+    ensures { λ r. ⌜ r ≡ upTo (λ (f : ℕ). leb (getD (now (served .entry)) (f + 1) 0) 1) frames 0 ⌝ }
+{
+    let mut f = 0;
+    while f < frames {
+        if 1 < served[f + 1] {
+            return false;
+        }
+        f += 1;
+    }
+    true
+}
+
+// Each frame is named as often as it serves.
+fn each_named<'a>(named: &'a [u16; 256], served: &'a [u16; 256], frames: usize) -> bool
+    requires { ⌜ frames ≤ 64 ⌝ }
+    ensures { λ r. ⌜ r ≡ upTo (λ (f : ℕ). eqb (getD (now (named .entry)) f 0) (getD (now (served .entry)) (f + 1) 0)) frames 0 ⌝ }
+{
+    let mut f = 0;
+    while f < frames {
+        if named[f] != served[f + 1] {
+            return false;
+        }
+        f += 1;
+    }
+    true
+}
+
+// No frame serves two pages, and the order names each that serves as often as it serves.
+fn frames_agree(entries: &[u8], order: &[u8], frames: usize) -> bool
+    requires { ⌜ (length (now entries) ≤ 1024) × (length (now order) ≤ 64) × (frames ≤ 64) ⌝ }
+    ensures { λ r. ⌜ r ≡ (upTo (λ (f : ℕ). leb (serving f (now (entries .entry))) 1) frames 0 && upTo (λ (f : ℕ). eqb (times f (now (order .entry))) (serving f (now (entries .entry)))) frames 0) ⌝ }
+{
+    let served = tally(entries, true);
+    let named = tally(order, false);
+    each_once(&served, frames) & each_named(&named, &served, frames)
+}
+
+fn counts_within(tables: &[u8], frames: usize, room: usize) -> bool
+    requires { ⌜ 3 ≤ length (now tables) ⌝ }
+    ensures { λ r. ⌜ r ≡ (leb (num 2 (now (tables .entry)) 0) room && leb (getD (now (tables .entry)) 2 0) frames) ⌝ }
+{
+    let m = word::load(tables, 0, 2) as usize;
+    let u = word::wide(tables[2]) as usize;
+    (m <= room) & (u <= frames)
+}
+
+// The live set, one byte a transaction.
+fn live_marked(tables: &[u8]) -> bool
+    requires { ⌜ 35 ≤ length (now tables) ⌝ }
+    ensures { λ r. ⌜ r ≡ every (λ (b : ℕ). leb b 1) (part 3 32 (now (tables .entry))) ⌝ }
+{
+    all_below(&tables[3..35], 2)
+}
+
+// No entry names a frame that is not there.
+fn entries_within(tables: &[u8], pages: usize, frames: usize) -> bool
+    requires { ⌜ (length (now tables) ≡ 35 + frames + pages) × (frames ≤ 64) ⌝ }
+    ensures { λ r. ⌜ r ≡ every (λ (e : ℕ). leb (e / 2) frames) (part (35 + frames) pages (now (tables .entry))) ⌝ }
+{
+    let a = 35 + frames;
+    all_below(&tables[a..], 2 * frames + 2)
+}
+
+// Neither does a place of the order.
+fn order_within(tables: &[u8], frames: usize, u: usize) -> bool
+    requires { ⌜ (35 + u ≤ length (now tables)) × (u ≤ 64) ⌝ }
+    ensures { λ r. ⌜ r ≡ every (λ (f : ℕ). ltb f frames) (part 35 u (now (tables .entry))) ⌝ }
+{
+    let e = 35 + u;
+    all_below(&tables[35..e], frames)
+}
+
+// The places that are not in use are zero.
+fn tail_clear(tables: &[u8], frames: usize, u: usize) -> bool
+    requires { ⌜ (35 + frames ≤ length (now tables)) × (u ≤ frames) × (frames ≤ 64) ⌝ }
+    ensures { λ r. ⌜ r ≡ zeros (part (35 + u) (frames - u) (now (tables .entry))) ⌝ }
+{
+    let a = 35 + u;
+    let e = 35 + frames;
+    all_below(&tables[a..e], 1)
+}
+
+// No frame serves two pages, and the order names each that serves as often as it serves.
+fn frames_served(tables: &[u8], pages: usize, frames: usize, u: usize) -> bool
+    requires { ⌜ (length (now tables) ≡ 35 + frames + pages) × (pages ≤ 1024) × (frames ≤ 64) × (u ≤ frames) ⌝ }
+    ensures { λ r. ⌜ r ≡ (upTo (λ (f : ℕ). leb (serving f (part (35 + frames) pages (now (tables .entry)))) 1) frames 0 && upTo (λ (f : ℕ). eqb (times f (part 35 u (now (tables .entry)))) (serving f (part (35 + frames) pages (now (tables .entry))))) frames 0) ⌝ }
+{
+    let e = 35 + u;
+    let a = 35 + frames;
+    frames_agree(&tables[a..], &tables[35..e], frames)
+}
+
+// The `tables` area is sound, as far as it alone decides that.
+pub fn sound_tables(tables: &[u8], pages: usize, frames: usize, room: usize) -> bool
+    requires { ⌜ (length (now tables) ≡ 35 + frames + pages) × (pages ≤ 1024) × (frames ≤ 64) ⌝ }
+    ensures { λ r. ⌜ r ≡ tablesTest (now (tables .entry)) pages frames room ⌝ }
+{
+    if !counts_within(tables, frames, room) {
+        return false;
+    }
+    let u = word::wide(tables[2]) as usize;
+    let marked = live_marked(tables);
+    let entries = entries_within(tables, pages, frames);
+    let order = order_within(tables, frames, u);
+    let tail = tail_clear(tables, frames, u);
+    marked & entries & order & tail & frames_served(tables, pages, frames, u)
+}
