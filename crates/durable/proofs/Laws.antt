@@ -82,17 +82,17 @@ module _ (b : List ℕ → Bool) (w : ℕ) (t : List ℕ) (n : ℕ) where
   pub rows-none : every b (rows w (n - 0) t 0) ≡ every b (rows w n t 0)
   rows-none = let e : n - 0 ≡ n = omega arith in rw e
 
-  pub rows-turn : (i : ℕ) (x : Bool) → i < n → b (rowAt w t i) ≡ true → every b (rows w (n - i) t i) ≡ x → every b (rows w (n - (i + 1)) t (i + 1)) ≡ x
+  pub rows-turn : (i : ℕ) (x : Bool) {r : Bool} → i < n → r ≡ b (rowAt w t i) → not r ≡ false → every b (rows w (n - i) t i) ≡ x → every b (rows w (n - (i + 1)) t (i + 1)) ≡ x
   unfolding rows every
-  rows-turn i x p h inv =
+  rows-turn i x p f g inv =
       let e : n - i ≡ suc (n - (i + 1)) = omega arith in
-      rw (e, h) at inv
+      rw (e, passed f g) at inv
 
-  pub rows-stop : (i : ℕ) (x : Bool) → i < n → b (rowAt w t i) ≡ false → every b (rows w (n - i) t i) ≡ x → false ≡ x
+  pub rows-stop : (i : ℕ) (x : Bool) {r : Bool} → i < n → r ≡ b (rowAt w t i) → not r ≡ true → every b (rows w (n - i) t i) ≡ x → false ≡ x
   unfolding rows every
-  rows-stop i x p h inv =
+  rows-stop i x p f g inv =
       let e : n - i ≡ suc (n - (i + 1)) = omega arith in
-      rw (e, h) at inv
+      rw (e, refused f g) at inv
 
   pub rows-done : (i : ℕ) (x : Bool) → n ≤ i → every b (rows w (n - i) t i) ≡ x → true ≡ x
   unfolding rows every
@@ -179,28 +179,30 @@ pub log-found : (size pages n : ℕ) (log : List ℕ) (a b : Bool) → a ≡ eve
 log-found size pages n log a b e f = rw (e, f, rest-lent log (n * 14))
 
 -- the counts that `sound_marks` goes on with
-pub counts-hold : (last closed n span : ℕ) → soundCounts last closed n span ≡ true → (n ≤ span) × (n ≤ last)
-counts-hold last closed n span h =
-    let e = and-three (leb n span) (leb n last) (leb (last - n + 1) (closed + 1)) h in
+pub counts-hold : (last closed n span : ℕ) {r : Bool} → r ≡ soundCounts last closed n span → not r ≡ false → (n ≤ span) × (n ≤ last)
+counts-hold last closed n span f g =
+    let e = and-three (leb n span) (leb n last) (leb (last - n + 1) (closed + 1)) (passed f g) in
     (leb-true n span (e .0), leb-true n last (e .1))
 
 -- `sound_marks`: what each check found, of the numbers that were read
-module _ (marks log : List ℕ) (size pages span last closed n : ℕ) (el : last ≡ num 4 marks 0) (ek : closed ≡ num 4 marks 4) (en : n ≡ num 4 marks 8) where
-  pub marks-counts : soundCounts last closed n span ≡ false → false ≡ soundMarks marks log size pages span
+module _ (marks log : List ℕ) (size pages span last closed n : ℕ) (el : last ≡ num 4 marks 0) (ek : closed ≡ num 4 marks 4) (en : n ≡ num 4 marks 8) {r : Bool} (counted : r ≡ soundCounts last closed n span) where
+  pub marks-counts : not r ≡ true → false ≡ soundMarks marks log size pages span
   unfolding soundMarks
-  marks-counts h = rw (← el, ← ek, ← en, h)
+  marks-counts h = rw (← el, ← ek, ← en, refused counted h)
 
-  pub marks-stamps : soundCounts last closed n span ≡ true → soundStamps marks pages last closed ≡ false → false ≡ soundMarks marks log size pages span
-  unfolding soundMarks
-  marks-stamps h i = rw (← el, ← ek, ← en, h, i)
+  module _ (h : not r ≡ false) {t : Bool} (stamped : t ≡ soundStamps marks pages last closed) where
+    pub marks-stamps : not t ≡ true → false ≡ soundMarks marks log size pages span
+    unfolding soundMarks
+    marks-stamps i = rw (← el, ← ek, ← en, passed counted h, refused stamped i)
 
-  pub marks-dirty : soundCounts last closed n span ≡ true → soundStamps marks pages last closed ≡ true → soundDirties marks pages (last - n + 1) closed ≡ false → false ≡ soundMarks marks log size pages span
-  unfolding soundMarks
-  marks-dirty h i j = rw (← el, ← ek, ← en, h, i, j)
+    module _ (i : not t ≡ false) {d : Bool} (dirtied : d ≡ soundDirties marks pages (last - n + 1) closed) where
+      pub marks-dirty : not d ≡ true → false ≡ soundMarks marks log size pages span
+      unfolding soundMarks
+      marks-dirty j = rw (← el, ← ek, ← en, passed counted h, passed stamped i, refused dirtied j)
 
-  pub marks-log : (r : Bool) → soundCounts last closed n span ≡ true → soundStamps marks pages last closed ≡ true → soundDirties marks pages (last - n + 1) closed ≡ true → r ≡ (every (wellFormed size pages) (rows 14 n log 0) && zeros (drop (n * 14) log)) → r ≡ soundMarks marks log size pages span
-  unfolding soundMarks
-  marks-log r h i j k = rw (← el, ← ek, ← en, h, i, j) k
+      pub marks-log : {x : Bool} → not d ≡ false → x ≡ (every (wellFormed size pages) (rows 14 n log 0) && zeros (drop (n * 14) log)) → x ≡ soundMarks marks log size pages span
+      unfolding soundMarks
+      marks-log j k = rw (← el, ← ek, ← en, passed counted h, passed stamped i, passed dirtied j) k
 
 -- the ranges as bounds
 size-bounds : (n : ℕ) (a b c d : Bool) → eqb n 512 ≡ a → eqb n 1024 ≡ b → eqb n 2048 ≡ c → eqb n 4096 ≡ d → (a || b || c || d) ≡ true → (512 ≤ n) × (n ≤ 4096)
@@ -253,9 +255,9 @@ lengths-each s size pages frames room span h =
     )
 
 -- the two that `sound_marks` asks for
-pub lengths-marks : (s : Lent) (size pages frames room span : ℕ) → exactLengths s size pages frames room span ≡ true → (length (s .durable .marks) ≡ 12 + 8 * pages) × (length (s .durable .log) ≡ 14 * span)
-lengths-marks s size pages frames room span h =
-    let e = lengths-each s size pages frames room span h in
+pub lengths-marks : (s : Lent) (size pages frames room span : ℕ) {r : Bool} → r ≡ exactLengths s size pages frames room span → not r ≡ false → (length (s .durable .marks) ≡ 12 + 8 * pages) × (length (s .durable .log) ≡ 14 * span)
+lengths-marks s size pages frames room span f g =
+    let e = lengths-each s size pages frames room span (passed f g) in
     (e .0, e .1)
 
 -- `sound_durable`: what each check found
@@ -273,17 +275,19 @@ module _ (s : Lent) (size pages frames room span : ℕ) (fixed : length (s .dura
   unfolding s2-lengths
   second-clause b h = rw (← given .0, ← given .1, ← given .2, ← given .3, ← given .4) h
 
-  pub durable-range : inRange size pages frames room span ≡ false → false ≡ soundDurable s
-  unfolding soundDurable
-  durable-range h = rw (first-clause false h)
+  module _ {r : Bool} (within : r ≡ inRange size pages frames room span) where
+    pub durable-range : not r ≡ true → false ≡ soundDurable s
+    unfolding soundDurable
+    durable-range h = rw (first-clause false (refused within h))
 
-  pub durable-lengths : inRange size pages frames room span ≡ true → exactLengths s size pages frames room span ≡ false → false ≡ soundDurable s
-  unfolding soundDurable
-  durable-lengths h i = rw (first-clause true h, second-clause false i)
+    module _ (h : not r ≡ false) {t : Bool} (exact : t ≡ exactLengths s size pages frames room span) where
+      pub durable-lengths : not t ≡ true → false ≡ soundDurable s
+      unfolding soundDurable
+      durable-lengths i = rw (first-clause true (passed within h), second-clause false (refused exact i))
 
-  pub durable-marks : (r : Bool) → inRange size pages frames room span ≡ true → exactLengths s size pages frames room span ≡ true → r ≡ soundMarks (s .durable .marks) (s .durable .log) size pages span → r ≡ soundDurable s
-  unfolding soundDurable soundMarks s3-logged s16-logged s18-first s15-stamps s17-s19-dirty s7-log-records s14-log-zero
-  durable-marks r h i e = rw (first-clause true h, second-clause true i, ← given .0, ← given .1, ← given .4) e
+      pub durable-marks : {x : Bool} → not t ≡ false → x ≡ soundMarks (s .durable .marks) (s .durable .log) size pages span → x ≡ soundDurable s
+      unfolding soundDurable soundMarks s3-logged s16-logged s18-first s15-stamps s17-s19-dirty s7-log-records s14-log-zero
+      durable-marks i e = rw (first-clause true (passed within h), second-clause true (passed exact i), ← given .0, ← given .1, ← given .4) e
 
 -- what a sound durable part gives
 durable-clauses : (s : Lent) → soundDurable s ≡ true → (s1-parameters s ≡ true) × (s2-lengths s ≡ true) × (s3-logged s ≡ true) × (s16-logged s ≡ true) × (s18-first s ≡ true) × (s15-stamps s ≡ true) × (s17-s19-dirty s ≡ true) × (s7-log-records s ≡ true) × (s14-log-zero s ≡ true)

@@ -6,7 +6,7 @@ use denote.Ref.{now}
 use Rattle.record.specs.Rows.{rows}
 use Rattle.record.specs.Record.{wellFormed}
 use Rattle.rules.specs.Sound.{every}
-use Rattle.durable.proofs.Laws.{refused, passed, rows-none, rows-turn, rows-stop, rows-done}
+use Rattle.durable.proofs.Laws.{rows-none, rows-turn, rows-stop, rows-done}
 use Rattle.durable.proofs.log_records.Statement.{statement}
 use Rattle.durable.proofs.log_records.Tie as tie
 
@@ -27,7 +27,7 @@ well-formed-requires c κs = search needs
 returns : tie.Need-returns Inv-loop μ-loop
 returns c = 
     let a = c .before .before .before .before .before .args in
-    rows-stop (wellFormed (a .size) (a .pages)) 14 (now (a .log)) (a .n) (c .before .before .before .loop .i) _ (c .before .before .loop-test .taken) (refused (c .before .well-formed .ensures) (c .if1 .taken)) (c .before .before .before .loop .inv .1)
+    rows-stop (wellFormed (a .size) (a .pages)) 14 (now (a .log)) (a .n) (c .before .before .before .loop .i) _ (c .before .before .loop-test .taken) (c .before .well-formed .ensures) (c .if1 .taken) (c .before .before .before .loop .inv .1)
 
 add-i : tie.Need-add-i Inv-loop μ-loop
 add-i c = search needs
@@ -38,7 +38,7 @@ loop-less c = search needs
 loop-again : tie.Need-loop-again Inv-loop μ-loop
 loop-again c = 
     let a = c .before .before .before .before .before .args in
-    (search needs, rows-turn (wellFormed (a .size) (a .pages)) 14 (now (a .log)) (a .n) (c .before .before .before .loop .i) _ (c .before .before .loop-test .taken) (passed (c .before .well-formed .ensures) (c .if1 .left)) (c .before .before .before .loop .inv .1))
+    (search needs, rows-turn (wellFormed (a .size) (a .pages)) 14 (now (a .log)) (a .n) (c .before .before .before .loop .i) _ (c .before .before .loop-test .taken) (c .before .well-formed .ensures) (c .if1 .left) (c .before .before .before .loop .inv .1))
 
 returns-2 : tie.Need-returns-2 Inv-loop μ-loop
 returns-2 c = 

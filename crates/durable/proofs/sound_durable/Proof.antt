@@ -2,7 +2,7 @@
 use borrow.Author.Needs.{needs}
 use denote.Ref.{now}
 use Rattle.rules.specs.Lent.{lentOf}
-use Rattle.durable.proofs.Laws.{refused, passed, lengths-marks, durable-fixed, durable-range, durable-lengths, durable-marks}
+use Rattle.durable.proofs.Laws.{passed, lengths-marks, durable-fixed, durable-range, durable-lengths, durable-marks}
 use Rattle.durable.proofs.sound_durable.Statement.{statement}
 use Rattle.durable.proofs.sound_durable.Tie as tie
 
@@ -20,7 +20,7 @@ in-range-requires c κs = search needs
 returns-2 : tie.Need-returns-2
 returns-2 c = 
     let a = c .before .before .before .before .before .before .before .before .before .before .before .args in
-    durable-range (lentOf (now (a .fixed)) (now (a .marks)) (now (a .log)) (now (a .stored)) (now (a .tables)) (now (a .online)) (now (a .pool))) _ _ _ _ _ (c .before .before .before .if1 .left) (c .before .before .params-of .ensures) (refused (c .before .in-range .ensures) (c .if2 .taken))
+    durable-range (lentOf (now (a .fixed)) (now (a .marks)) (now (a .log)) (now (a .stored)) (now (a .tables)) (now (a .online)) (now (a .pool))) (c .before .before .params-of .result .size) (c .before .before .params-of .result .pages) (c .before .before .params-of .result .frames) (c .before .before .params-of .result .room) (c .before .before .params-of .result .span) (c .before .before .before .if1 .left) (c .before .before .params-of .ensures) (c .before .in-range .ensures) (c .if2 .taken)
 
 exact-lengths-requires : tie.Need-exact-lengths-requires
 exact-lengths-requires c κs = passed (c .before .in-range .ensures) (c .if2 .left)
@@ -28,17 +28,17 @@ exact-lengths-requires c κs = passed (c .before .in-range .ensures) (c .if2 .le
 returns-3 : tie.Need-returns-3
 returns-3 c = 
     let a = c .before .before .before .before .before .before .before .before .before .before .before .before .before .args in
-    durable-lengths (lentOf (now (a .fixed)) (now (a .marks)) (now (a .log)) (now (a .stored)) (now (a .tables)) (now (a .online)) (now (a .pool))) _ _ _ _ _ (c .before .before .before .before .before .if1 .left) (c .before .before .before .before .params-of .ensures) (passed (c .before .before .before .in-range .ensures) (c .before .before .if2 .left)) (refused (c .before .exact-lengths .ensures (now (a .fixed))) (c .if3 .taken))
+    durable-lengths (lentOf (now (a .fixed)) (now (a .marks)) (now (a .log)) (now (a .stored)) (now (a .tables)) (now (a .online)) (now (a .pool))) (c .before .before .before .before .params-of .result .size) (c .before .before .before .before .params-of .result .pages) (c .before .before .before .before .params-of .result .frames) (c .before .before .before .before .params-of .result .room) (c .before .before .before .before .params-of .result .span) (c .before .before .before .before .before .if1 .left) (c .before .before .before .before .params-of .ensures) (c .before .before .before .in-range .ensures) (c .before .before .if2 .left) (c .before .exact-lengths .ensures (now (a .fixed))) (c .if3 .taken)
 
 sound-marks-requires : tie.Need-sound-marks-requires
 sound-marks-requires c κs = 
     let a = c .before .before .before .before .before .before .before .before .before .before .before .before .before .args in
-    lengths-marks (lentOf (now (a .fixed)) (now (a .marks)) (now (a .log)) (now (a .stored)) (now (a .tables)) (now (a .online)) (now (a .pool))) _ _ _ _ _ (passed (c .before .exact-lengths .ensures (now (a .fixed))) (c .if3 .left))
+    lengths-marks (lentOf (now (a .fixed)) (now (a .marks)) (now (a .log)) (now (a .stored)) (now (a .tables)) (now (a .online)) (now (a .pool))) (c .before .before .before .before .params-of .result .size) (c .before .before .before .before .params-of .result .pages) (c .before .before .before .before .params-of .result .frames) (c .before .before .before .before .params-of .result .room) (c .before .before .before .before .params-of .result .span) (c .before .exact-lengths .ensures (now (a .fixed))) (c .if3 .left)
 
 returns-4 : tie.Need-returns-4
 returns-4 c = 
     let a = c .before .before .before .before .before .before .before .before .before .before .before .before .before .before .args in
-    durable-marks (lentOf (now (a .fixed)) (now (a .marks)) (now (a .log)) (now (a .stored)) (now (a .tables)) (now (a .online)) (now (a .pool))) _ _ _ _ _ (c .before .before .before .before .before .before .if1 .left) (c .before .before .before .before .before .params-of .ensures) _ (passed (c .before .before .before .before .in-range .ensures) (c .before .before .before .if2 .left)) (passed (c .before .before .exact-lengths .ensures (now (a .fixed))) (c .before .if3 .left)) (c .sound-marks .ensures)
+    durable-marks (lentOf (now (a .fixed)) (now (a .marks)) (now (a .log)) (now (a .stored)) (now (a .tables)) (now (a .online)) (now (a .pool))) (c .before .before .before .before .before .params-of .result .size) (c .before .before .before .before .before .params-of .result .pages) (c .before .before .before .before .before .params-of .result .frames) (c .before .before .before .before .before .params-of .result .room) (c .before .before .before .before .before .params-of .result .span) (c .before .before .before .before .before .before .if1 .left) (c .before .before .before .before .before .params-of .ensures) (c .before .before .before .before .in-range .ensures) (c .before .before .before .if2 .left) (c .before .before .exact-lengths .ensures (now (a .fixed))) (c .before .if3 .left) (c .sound-marks .ensures)
 
 pub sound-durable-spec : {M : Type 1} → statement M
 sound-durable-spec =
