@@ -2,18 +2,18 @@
 use Prim.Native.Nat.{ℕ, zero, suc, _+_, _*_, _-_, _^_, _≤_, _<_}
 use native.Mathlib.Omega.{arith}
 use native.Mathlib.Numerals.{add-one}
-use native.Mathlib.Nat.{mul-le-mul, lt-of-le-of-lt}
+use native.Mathlib.Nat.{mul-le-mul}
 use mathlib.Core.Path.{_≡_, refl, sym, ap, _∙_}
-use mathlib.Core.Bool.{Bool, true, false, not, _&&_, _||_, and-true, and-false}
-use mathlib.Core.List.{List, [], _∷_}
+use mathlib.Core.Bool.{Bool, true, false, not, _&&_, _||_}
+use mathlib.Core.List.{List}
 use lib.ListN.{length, getD, take, drop, length-drop, drop-of-length-le}
 use lib.Seq.{drop-cons, take-all}
 use lib.Dec.{eqb, leb, ltb}
-use borrow.Author.Tests.{eqb-true, eqb-false, leb-true, leb-false, eq-eqb, ne-eqb, le-leb, lt-leb, lt-ltb, not-true, not-false}
+use borrow.Author.Tests.{eqb-true, leb-true, eq-eqb, ne-eqb, le-leb, lt-leb, lt-ltb, not-true, not-false}
 use Rattle.record.specs.Rows.{rowAt, rows}
 use Rattle.record.specs.Record.{pageOf, offsetOf, lengthOf, kindOf, valueOf, isLength, wellFormed}
 use Rattle.word.specs.Word.{num}
-use Rattle.rules.specs.Lent.{Lent, lentOf, sizeOf, pagesOf, framesOf, roomOf, spanOf, lastOf, loggedOf, logOf, stampAt, dirtyAt}
+use Rattle.rules.specs.Lent.{Lent, sizeOf, pagesOf, framesOf, roomOf, spanOf, lastOf, loggedOf, logOf, stampAt, dirtyAt}
 use Rattle.rules.specs.Sound.{every, upTo, zeros, between, isPageSize, inRange, exactLengths, s1-parameters, s2-lengths, s3-logged, s16-logged, s18-first, s15-stamps, s17-s19-dirty, s7-log-records, s14-log-zero, soundDurable}
 use Rattle.rules.specs.Shape.{Sized}
 use Rattle.durable.specs.Marks.{isRecord, soundCounts, stampWithin, soundStamps, soundDirty, dirtyWithin, soundDirties, soundMarks}
@@ -227,11 +227,16 @@ ranged size pages frames room span h =
     let o = between-bounds 1 room 512 (e .3) in
     let l = between-bounds 1 span 2048 (e .4) in
     record {
-      size-least = s .0; size-most = s .1;
-      pages-least = p .0; pages-most = p .1;
-      frames-least = f .0; frames-most = f .1;
-      room-least = o .0; room-most = o .1;
-      span-least = l .0; span-most = l .1
+      size-least = s .0;
+      size-most = s .1;
+      pages-least = p .0;
+      pages-most = p .1;
+      frames-least = f .0;
+      frames-most = f .1;
+      room-least = o .0;
+      room-most = o .1;
+      span-least = l .0;
+      span-most = l .1;
     }
 
 -- an area of pages or frames stays small
@@ -243,8 +248,8 @@ lengths-each : (s : Lent) (size pages frames room span : ℕ) → exactLengths s
 unfolding exactLengths
 lengths-each s size pages frames room span h =
     let e =
-      and-six (eqb (length (s .durable .marks)) (12 + 8 * pages)) (eqb (length (s .durable .log)) (14 * span)) (eqb (length (s .durable .stored)) (size * pages))
-      (eqb (length (s .lost .tables)) (35 + frames + pages)) (eqb (length (s .lost .online)) (19 * room)) (eqb (length (s .lost .pool)) (size * frames)) h
+    and-six (eqb (length (s .durable .marks)) (12 + 8 * pages)) (eqb (length (s .durable .log)) (14 * span)) (eqb (length (s .durable .stored)) (size * pages))
+    (eqb (length (s .lost .tables)) (35 + frames + pages)) (eqb (length (s .lost .online)) (19 * room)) (eqb (length (s .lost .pool)) (size * frames)) h
     in (
       eqb-true (length (s .durable .marks)) (12 + 8 * pages) (e .0),
       eqb-true (length (s .durable .log)) (14 * span) (e .1),
@@ -266,7 +271,7 @@ unfolding soundDurable s1-parameters
 durable-fixed s h = rw (ne-eqb (length (s .durable .fixed)) 20 h)
 
 module _ (s : Lent) (size pages frames room span : ℕ) (fixed : length (s .durable .fixed) ≡ 20)
-  (given : (size ≡ num 4 (s .durable .fixed) 0) × (pages ≡ num 4 (s .durable .fixed) 4) × (frames ≡ num 4 (s .durable .fixed) 8) × (room ≡ num 4 (s .durable .fixed) 12) × (span ≡ num 4 (s .durable .fixed) 16)) where
+    (given : (size ≡ num 4 (s .durable .fixed) 0) × (pages ≡ num 4 (s .durable .fixed) 4) × (frames ≡ num 4 (s .durable .fixed) 8) × (room ≡ num 4 (s .durable .fixed) 12) × (span ≡ num 4 (s .durable .fixed) 16)) where
   first-clause : (b : Bool) → inRange size pages frames room span ≡ b → s1-parameters s ≡ b
   unfolding s1-parameters
   first-clause b h = rw (eq-eqb (length (s .durable .fixed)) 20 fixed, ← given .0, ← given .1, ← given .2, ← given .3, ← given .4) h
@@ -303,11 +308,20 @@ durable-sized s h =
     let l = lengths-each s (sizeOf s) (pagesOf s) (framesOf s) (roomOf s) (spanOf s) (e .1) in
     record {
       fixed = eqb-true (length (s .durable .fixed)) 20 (p .0);
-      size-least = r .size-least; size = r .size-most;
-      pages-least = r .pages-least; pages = r .pages-most;
-      frames-least = r .frames-least; frames = r .frames-most;
-      room = r .room-most; span = r .span-most;
-      marks = l .0; log = l .1; stored = l .2; tables = l .3; online = l .4; pool = l .5
+      size-least = r .size-least;
+      size = r .size-most;
+      pages-least = r .pages-least;
+      pages = r .pages-most;
+      frames-least = r .frames-least;
+      frames = r .frames-most;
+      room = r .room-most;
+      span = r .span-most;
+      marks = l .0;
+      log = l .1;
+      stored = l .2;
+      tables = l .3;
+      online = l .4;
+      pool = l .5;
     }
 
 pub durable-logged : (s : Lent) → soundDurable s ≡ true → (loggedOf s ≤ spanOf s) × (loggedOf s ≤ lastOf s)

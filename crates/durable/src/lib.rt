@@ -3,16 +3,15 @@
 ghost use mathlib.Core.Path.{_≡_};
 ghost use mathlib.Core.Bool.{true, _&&_};
 ghost use mathlib.Core.List.{List};
-ghost use Prim.Native.Nat.{ℕ, _+_, _*_, _-_, _^_, _≤_, _<_};
+ghost use Prim.Native.Nat.{ℕ, _+_, _*_, _^_, _≤_, _<_};
 ghost use lib.ListN.{length, drop};
-ghost use lib.Dec.{leb, ltb};
+ghost use lib.Dec.{ltb};
 ghost use Rattle.word.specs.Word.{num};
 ghost use Rattle.record.specs.Rows.{rowAt, rows};
 ghost use Rattle.record.specs.Record.{isLength, wellFormed};
 ghost use Rattle.rules.specs.Lent.{lentOf};
 ghost use Rattle.rules.specs.Sound.{every, upTo, zeros, isPageSize, inRange, exactLengths, soundDurable};
 ghost use Rattle.durable.specs.Marks.{isRecord, soundCounts, stampWithin, soundStamps, soundDirty, soundDirties, soundMarks};
-
 use number::LogNo;
 use number::PageNo;
 
@@ -30,6 +29,7 @@ pub fn all_zero(s: &[u8]) -> bool
     true
 }
 
+// A length is 1, 2, 4 or 8.
 pub fn is_length(w: usize) -> bool
     ensures { λ r. ⌜ r ≡ isLength w ⌝ }
 {
@@ -54,7 +54,15 @@ pub fn value_fits(w: usize, v: u64) -> bool
 }
 
 // The fields of a record are in their ranges.
-fn is_record(page: PageNo, offset: usize, w: usize, kind: u8, v: u64, size: usize, pages: usize) -> bool
+fn is_record(
+    page: PageNo,
+    offset: usize,
+    w: usize,
+    kind: u8,
+    v: u64,
+    size: usize,
+    pages: usize,
+) -> bool
     requires { ⌜ (offset < 65536) × (w < 256) ⌝ }
     ensures { λ r. ⌜ r ≡ isRecord size pages (page .0) offset w kind v ⌝ }
 {
@@ -152,6 +160,7 @@ fn dirty_numbers(marks: &[u8], pages: usize, first: LogNo, closed: LogNo) -> boo
     true
 }
 
+// A page size is 512, 1,024, 2,048 or 4,096.
 fn is_page_size(size: u64) -> bool
     ensures { λ r. ⌜ r ≡ isPageSize size ⌝ }
 {
@@ -170,7 +179,19 @@ pub fn in_range(size: u64, pages: u64, frames: u64, room: u64, span: u64) -> boo
 }
 
 // The areas beside `fixed` have the lengths of these parameters.
-pub fn exact_lengths(marks: &[u8], log: &[u8], stored: &[u8], tables: &[u8], online: &[u8], pool: &[u8], size: u64, pages: u64, frames: u64, room: u64, span: u64) -> bool
+pub fn exact_lengths(
+    marks: &[u8],
+    log: &[u8],
+    stored: &[u8],
+    tables: &[u8],
+    online: &[u8],
+    pool: &[u8],
+    size: u64,
+    pages: u64,
+    frames: u64,
+    room: u64,
+    span: u64,
+) -> bool
     requires { ⌜ inRange size pages frames room span ≡ true ⌝ }
     ensures { λ r. ⌜ ((fixed : List ℕ) → r ≡ exactLengths (lentOf fixed (now (marks .entry)) (now (log .entry)) (now (stored .entry)) (now (tables .entry)) (now (online .entry)) (now (pool .entry))) size pages frames room span) ⌝ }
 {
@@ -191,6 +212,7 @@ pub struct Params {
     pub span: u64,
 }
 
+// The parameters as `fixed` holds them.
 pub fn params_of(fixed: &[u8]) -> Params
     requires { ⌜ length (now fixed) ≡ 20 ⌝ }
     ensures { λ r. ⌜ (r .size ≡ num 4 (now (fixed .entry)) 0) × (r .pages ≡ num 4 (now (fixed .entry)) 4) × (r .frames ≡ num 4 (now (fixed .entry)) 8) × (r .room ≡ num 4 (now (fixed .entry)) 12) × (r .span ≡ num 4 (now (fixed .entry)) 16) ⌝ }
@@ -235,7 +257,15 @@ fn sound_marks(marks: &[u8], log: &[u8], size: usize, pages: usize, span: u64) -
 }
 
 // The parameters, the lengths and the durable part of any lent tables are sound.
-pub fn sound_durable(fixed: &[u8], marks: &[u8], log: &[u8], stored: &[u8], tables: &[u8], online: &[u8], pool: &[u8]) -> bool
+pub fn sound_durable(
+    fixed: &[u8],
+    marks: &[u8],
+    log: &[u8],
+    stored: &[u8],
+    tables: &[u8],
+    online: &[u8],
+    pool: &[u8],
+) -> bool
     ensures { λ r. ⌜ r ≡ soundDurable (lentOf (now (fixed .entry)) (now (marks .entry)) (now (log .entry)) (now (stored .entry)) (now (tables .entry)) (now (online .entry)) (now (pool .entry))) ⌝ }
 {
     if fixed.len() != 20 {
@@ -245,7 +275,19 @@ pub fn sound_durable(fixed: &[u8], marks: &[u8], log: &[u8], stored: &[u8], tabl
     if !in_range(p.size, p.pages, p.frames, p.room, p.span) {
         return false;
     }
-    if !exact_lengths(marks, log, stored, tables, online, pool, p.size, p.pages, p.frames, p.room, p.span) {
+    if !exact_lengths(
+        marks,
+        log,
+        stored,
+        tables,
+        online,
+        pool,
+        p.size,
+        p.pages,
+        p.frames,
+        p.room,
+        p.span,
+    ) {
         return false;
     }
     sound_marks(marks, log, p.size as usize, p.pages as usize, p.span)

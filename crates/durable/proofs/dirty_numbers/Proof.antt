@@ -16,7 +16,7 @@ abbrev μ-loop : tie.MeasureT-loop
 μ-loop marks pages first closed p₀ p = pages - p
 
 loop-holds : tie.Need-loop-holds Inv-loop μ-loop
-loop-holds c = 
+loop-holds c =
     let a = c .before .args in
     (search needs, upTo-none (dirtyWithin (now (a .marks)) (a .pages) (a .first .0) (a .closed .0)) (a .pages))
 
@@ -39,7 +39,7 @@ is-dirty-number-requires : tie.Need-is-dirty-number-requires Inv-loop μ-loop
 is-dirty-number-requires c κs = search needs
 
 returns : tie.Need-returns Inv-loop μ-loop
-returns c = 
+returns c =
     let a = c .before .before .before .before .before .before .args in
     upTo-stop (dirtyWithin (now (a .marks)) (a .pages) (a .first .0) (a .closed .0)) (a .pages) (c .before .before .before .before .loop .p) _ (c .before .before .before .loop-test .taken)
     (refused (dirty-read (now (a .marks)) (a .pages) (a .first .0) (a .closed .0) (c .before .before .before .before .loop .p) _ _ (c .before .before .load .ensures .0) (c .before .is-dirty-number .ensures)) (c .if1 .taken)) (c .before .before .before .before .loop .inv .1)
@@ -51,14 +51,15 @@ loop-less : tie.Need-loop-less Inv-loop μ-loop
 loop-less c = search needs
 
 loop-again : tie.Need-loop-again Inv-loop μ-loop
-loop-again c = 
-    let a = c .before .before .before .before .before .before .args in
-    (search needs,
-    upTo-turn (dirtyWithin (now (a .marks)) (a .pages) (a .first .0) (a .closed .0)) (a .pages) (c .before .before .before .before .loop .p) _ (c .before .before .before .loop-test .taken)
-    (passed (dirty-read (now (a .marks)) (a .pages) (a .first .0) (a .closed .0) (c .before .before .before .before .loop .p) _ _ (c .before .before .load .ensures .0) (c .before .is-dirty-number .ensures)) (c .if1 .left)) (c .before .before .before .before .loop .inv .1))
+loop-again c =
+    let a = c .before .before .before .before .before .before .args in (
+      search needs,
+      upTo-turn (dirtyWithin (now (a .marks)) (a .pages) (a .first .0) (a .closed .0)) (a .pages) (c .before .before .before .before .loop .p) _ (c .before .before .before .loop-test .taken)
+          (passed (dirty-read (now (a .marks)) (a .pages) (a .first .0) (a .closed .0) (c .before .before .before .before .loop .p) _ _ (c .before .before .load .ensures .0) (c .before .is-dirty-number .ensures)) (c .if1 .left)) (c .before .before .before .before .loop .inv .1),
+    )
 
 returns-2 : tie.Need-returns-2 Inv-loop μ-loop
-returns-2 c = 
+returns-2 c =
     let a = c .before .before .before .args in
     upTo-done (dirtyWithin (now (a .marks)) (a .pages) (a .first .0) (a .closed .0)) (a .pages) (c .before .loop .p) _ (c .loop-test .left) (c .before .loop .inv .1)
 

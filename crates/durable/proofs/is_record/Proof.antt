@@ -8,7 +8,7 @@ is-length-requires : tie.Need-is-length-requires
 is-length-requires c κs = search needs
 
 returns : tie.Need-returns
-returns c = 
+returns c =
     let a = c .before .before .args in
     record-length (a .size) (a .pages) (a .page .0) (a .offset) (a .w) (a .kind) (a .v) (refused (c .before .is-length .ensures) (c .if1 .taken))
 
@@ -19,7 +19,7 @@ value-fits-requires : tie.Need-value-fits-requires
 value-fits-requires c κs = passed (c .before .before .is-length .ensures) (c .before .if1 .left)
 
 returns-2 : tie.Need-returns-2
-returns-2 c = 
+returns-2 c =
     let a = c .before .before .before .before .args in
     record-rest (a .size) (a .pages) (a .page .0) (a .offset) (a .w) (a .kind) (a .v) _ (passed (c .before .before .before .is-length .ensures) (c .before .before .if1 .left)) (c .value-fits .ensures)
 

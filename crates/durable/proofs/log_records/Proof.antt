@@ -17,7 +17,7 @@ abbrev μ-loop : tie.MeasureT-loop
 μ-loop log n size pages i₀ i = n - i
 
 loop-holds : tie.Need-loop-holds Inv-loop μ-loop
-loop-holds c = 
+loop-holds c =
     let a = c .before .args in
     (search needs, rows-none (wellFormed (a .size) (a .pages)) 14 (now (a .log)) (a .n))
 
@@ -25,7 +25,7 @@ well-formed-requires : tie.Need-well-formed-requires Inv-loop μ-loop
 well-formed-requires c κs = search needs
 
 returns : tie.Need-returns Inv-loop μ-loop
-returns c = 
+returns c =
     let a = c .before .before .before .before .before .args in
     rows-stop (wellFormed (a .size) (a .pages)) 14 (now (a .log)) (a .n) (c .before .before .before .loop .i) _ (c .before .before .loop-test .taken) (c .before .well-formed .ensures) (c .if1 .taken) (c .before .before .before .loop .inv .1)
 
@@ -36,12 +36,12 @@ loop-less : tie.Need-loop-less Inv-loop μ-loop
 loop-less c = search needs
 
 loop-again : tie.Need-loop-again Inv-loop μ-loop
-loop-again c = 
+loop-again c =
     let a = c .before .before .before .before .before .args in
     (search needs, rows-turn (wellFormed (a .size) (a .pages)) 14 (now (a .log)) (a .n) (c .before .before .before .loop .i) _ (c .before .before .loop-test .taken) (c .before .well-formed .ensures) (c .if1 .left) (c .before .before .before .loop .inv .1))
 
 returns-2 : tie.Need-returns-2 Inv-loop μ-loop
-returns-2 c = 
+returns-2 c =
     let a = c .before .before .before .args in
     rows-done (wellFormed (a .size) (a .pages)) 14 (now (a .log)) (a .n) (c .before .loop .i) _ (c .loop-test .left) (c .before .loop .inv .1)
 

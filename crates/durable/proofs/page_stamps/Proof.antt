@@ -3,7 +3,6 @@ use borrow.Author.Needs.{needs}
 use Prim.Native.Nat.{_-_, _≤_}
 use mathlib.Core.Path.{_≡_}
 use denote.Ref.{now}
-use borrow.Author.Tests.{le-leb, lt-leb}
 use Rattle.rules.specs.Sound.{upTo}
 use Rattle.durable.specs.Marks.{stampWithin}
 use Rattle.durable.proofs.Laws.{upTo-none, upTo-turn, upTo-stop, upTo-done, stamp-past, stamp-within}
@@ -17,7 +16,7 @@ abbrev μ-loop : tie.MeasureT-loop
 μ-loop marks pages last p₀ p = pages - p
 
 loop-holds : tie.Need-loop-holds Inv-loop μ-loop
-loop-holds c = 
+loop-holds c =
     let a = c .before .args in
     (search needs, upTo-none (stampWithin (now (a .marks)) (a .last .0)) (a .pages))
 
@@ -31,7 +30,7 @@ load-requires : tie.Need-load-requires Inv-loop μ-loop
 load-requires c κs = search needs
 
 returns : tie.Need-returns Inv-loop μ-loop
-returns c = 
+returns c =
     let a = c .before .before .before .before .before .before .args in
     upTo-stop (stampWithin (now (a .marks)) (a .last .0)) (a .pages) (c .before .before .before .before .loop .p) _ (c .before .before .before .loop-test .taken) (stamp-past (now (a .marks)) (a .last .0) (c .before .before .before .before .loop .p) _ (c .before .before .load .ensures .0) (c .if1 .taken)) (c .before .before .before .before .loop .inv .1)
 
@@ -42,12 +41,12 @@ loop-less : tie.Need-loop-less Inv-loop μ-loop
 loop-less c = search needs
 
 loop-again : tie.Need-loop-again Inv-loop μ-loop
-loop-again c = 
+loop-again c =
     let a = c .before .before .before .before .before .before .args in
     (search needs, upTo-turn (stampWithin (now (a .marks)) (a .last .0)) (a .pages) (c .before .before .before .before .loop .p) _ (c .before .before .before .loop-test .taken) (stamp-within (now (a .marks)) (a .last .0) (c .before .before .before .before .loop .p) _ (c .before .before .load .ensures .0) (c .if1 .left)) (c .before .before .before .before .loop .inv .1))
 
 returns-2 : tie.Need-returns-2 Inv-loop μ-loop
-returns-2 c = 
+returns-2 c =
     let a = c .before .before .before .args in
     upTo-done (stampWithin (now (a .marks)) (a .last .0)) (a .pages) (c .before .loop .p) _ (c .loop-test .left) (c .before .loop .inv .1)
 

@@ -7,9 +7,10 @@ use Rattle.durable.proofs.sound_durable.Statement.{statement}
 use Rattle.durable.proofs.sound_durable.Tie as tie
 
 returns : tie.Need-returns
-returns c = 
+returns c =
     let a = c .before .before .before .before .before .before .before .before .args in
-    durable-fixed (lentOf (now (a .fixed)) (now (a .marks)) (now (a .log)) (now (a .stored)) (now (a .tables)) (now (a .online)) (now (a .pool))) (c .if1 .taken)
+    let s = lentOf (now (a .fixed)) (now (a .marks)) (now (a .log)) (now (a .stored)) (now (a .tables)) (now (a .online)) (now (a .pool)) in
+    durable-fixed s (c .if1 .taken)
 
 params-of-requires : tie.Need-params-of-requires
 params-of-requires c κs = search needs
@@ -18,27 +19,45 @@ in-range-requires : tie.Need-in-range-requires
 in-range-requires c κs = search needs
 
 returns-2 : tie.Need-returns-2
-returns-2 c = 
+returns-2 c =
     let a = c .before .before .before .before .before .before .before .before .before .before .before .args in
-    durable-range (lentOf (now (a .fixed)) (now (a .marks)) (now (a .log)) (now (a .stored)) (now (a .tables)) (now (a .online)) (now (a .pool))) (c .before .before .params-of .result .size) (c .before .before .params-of .result .pages) (c .before .before .params-of .result .frames) (c .before .before .params-of .result .room) (c .before .before .params-of .result .span) (c .before .before .before .if1 .left) (c .before .before .params-of .ensures) (c .before .in-range .ensures) (c .if2 .taken)
+    let s = lentOf (now (a .fixed)) (now (a .marks)) (now (a .log)) (now (a .stored)) (now (a .tables)) (now (a .online)) (now (a .pool)) in
+    let p = c .before .before .params-of .result in
+    durable-range s (p .size) (p .pages) (p .frames) (p .room) (p .span)
+    (c .before .before .before .if1 .left) (c .before .before .params-of .ensures)
+    (c .before .in-range .ensures) (c .if2 .taken)
 
 exact-lengths-requires : tie.Need-exact-lengths-requires
 exact-lengths-requires c κs = passed (c .before .in-range .ensures) (c .if2 .left)
 
 returns-3 : tie.Need-returns-3
-returns-3 c = 
+returns-3 c =
     let a = c .before .before .before .before .before .before .before .before .before .before .before .before .before .args in
-    durable-lengths (lentOf (now (a .fixed)) (now (a .marks)) (now (a .log)) (now (a .stored)) (now (a .tables)) (now (a .online)) (now (a .pool))) (c .before .before .before .before .params-of .result .size) (c .before .before .before .before .params-of .result .pages) (c .before .before .before .before .params-of .result .frames) (c .before .before .before .before .params-of .result .room) (c .before .before .before .before .params-of .result .span) (c .before .before .before .before .before .if1 .left) (c .before .before .before .before .params-of .ensures) (c .before .before .before .in-range .ensures) (c .before .before .if2 .left) (c .before .exact-lengths .ensures (now (a .fixed))) (c .if3 .taken)
+    let s = lentOf (now (a .fixed)) (now (a .marks)) (now (a .log)) (now (a .stored)) (now (a .tables)) (now (a .online)) (now (a .pool)) in
+    let p = c .before .before .before .before .params-of .result in
+    durable-lengths s (p .size) (p .pages) (p .frames) (p .room) (p .span)
+    (c .before .before .before .before .before .if1 .left) (c .before .before .before .before .params-of .ensures)
+    (c .before .before .before .in-range .ensures) (c .before .before .if2 .left)
+    (c .before .exact-lengths .ensures (now (a .fixed))) (c .if3 .taken)
 
 sound-marks-requires : tie.Need-sound-marks-requires
-sound-marks-requires c κs = 
+sound-marks-requires c κs =
     let a = c .before .before .before .before .before .before .before .before .before .before .before .before .before .args in
-    lengths-marks (lentOf (now (a .fixed)) (now (a .marks)) (now (a .log)) (now (a .stored)) (now (a .tables)) (now (a .online)) (now (a .pool))) (c .before .before .before .before .params-of .result .size) (c .before .before .before .before .params-of .result .pages) (c .before .before .before .before .params-of .result .frames) (c .before .before .before .before .params-of .result .room) (c .before .before .before .before .params-of .result .span) (c .before .exact-lengths .ensures (now (a .fixed))) (c .if3 .left)
+    let s = lentOf (now (a .fixed)) (now (a .marks)) (now (a .log)) (now (a .stored)) (now (a .tables)) (now (a .online)) (now (a .pool)) in
+    let p = c .before .before .before .before .params-of .result in
+    lengths-marks s (p .size) (p .pages) (p .frames) (p .room) (p .span)
+    (c .before .exact-lengths .ensures (now (a .fixed))) (c .if3 .left)
 
 returns-4 : tie.Need-returns-4
-returns-4 c = 
+returns-4 c =
     let a = c .before .before .before .before .before .before .before .before .before .before .before .before .before .before .args in
-    durable-marks (lentOf (now (a .fixed)) (now (a .marks)) (now (a .log)) (now (a .stored)) (now (a .tables)) (now (a .online)) (now (a .pool))) (c .before .before .before .before .before .params-of .result .size) (c .before .before .before .before .before .params-of .result .pages) (c .before .before .before .before .before .params-of .result .frames) (c .before .before .before .before .before .params-of .result .room) (c .before .before .before .before .before .params-of .result .span) (c .before .before .before .before .before .before .if1 .left) (c .before .before .before .before .before .params-of .ensures) (c .before .before .before .before .in-range .ensures) (c .before .before .before .if2 .left) (c .before .before .exact-lengths .ensures (now (a .fixed))) (c .before .if3 .left) (c .sound-marks .ensures)
+    let s = lentOf (now (a .fixed)) (now (a .marks)) (now (a .log)) (now (a .stored)) (now (a .tables)) (now (a .online)) (now (a .pool)) in
+    let p = c .before .before .before .before .before .params-of .result in
+    durable-marks s (p .size) (p .pages) (p .frames) (p .room) (p .span)
+    (c .before .before .before .before .before .before .if1 .left) (c .before .before .before .before .before .params-of .ensures)
+    (c .before .before .before .before .in-range .ensures) (c .before .before .before .if2 .left)
+    (c .before .before .exact-lengths .ensures (now (a .fixed))) (c .before .if3 .left)
+    (c .sound-marks .ensures)
 
 pub sound-durable-spec : {M : Type 1} → statement M
 sound-durable-spec =

@@ -24,7 +24,7 @@ all-zero-requires : tie.Need-all-zero-requires
 all-zero-requires c κs = search needs
 
 returns : tie.Need-returns
-returns c = 
+returns c =
     let a = c .before .before .before .before .args in
     log-found (a .size) (a .pages) (a .n) (now (a .log)) _ _ (c .before .before .log-records .ensures) (c .all-zero .ensures)
 

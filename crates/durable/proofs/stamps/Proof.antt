@@ -12,7 +12,7 @@ page-stamps-requires : tie.Need-page-stamps-requires
 page-stamps-requires c κs = search needs
 
 returns : tie.Need-returns
-returns c = 
+returns c =
     let a = c .before .before .before .before .args in
     and-found (leb (a .closed .0) (a .last .0)) (upTo (stampWithin (now (a .marks)) (a .last .0)) (a .pages) 0) _ (c .page-stamps .ensures)
 

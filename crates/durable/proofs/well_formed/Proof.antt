@@ -25,7 +25,7 @@ is-record-requires : tie.Need-is-record-requires
 is-record-requires c κs = search needs
 
 returns : tie.Need-returns
-returns c = 
+returns c =
     let a = c .before .before .before .before .before .before .before .args in
     record-fields _ _ _ _ _ _ _ (rowAt (a .w) (now (a .t)) (a .i)) _
     (c .before .before .before .before .before .page-of .ensures .0)
