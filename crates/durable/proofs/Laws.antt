@@ -1,0 +1,335 @@
+-- Laws of the turns of the checking loops, of tests joined in a row, of the ranges and the lengths, and what the durable part's soundness gives.
+use Prim.Native.Nat.{ℕ, zero, suc, _+_, _*_, _-_, _^_, _≤_, _<_}
+use native.Mathlib.Omega.{arith}
+use native.Mathlib.Numerals.{add-one}
+use native.Mathlib.Nat.{mul-le-mul}
+use mathlib.Core.Path.{_≡_, refl, sym, ap, _∙_}
+use mathlib.Core.Bool.{Bool, true, false, not, _&&_, _||_}
+use mathlib.Core.List.{List}
+use lib.ListN.{length, getD, take, drop, length-drop, drop-of-length-le}
+use lib.Seq.{drop-cons, take-all}
+use lib.Dec.{eqb, leb, ltb}
+use borrow.Author.Tests.{eqb-true, leb-true, eq-eqb, ne-eqb, le-leb, lt-leb, lt-ltb, not-true, not-false}
+use Rattle.record.specs.Rows.{rowAt, rows}
+use Rattle.record.specs.Record.{pageOf, offsetOf, lengthOf, kindOf, valueOf, isLength, wellFormed}
+use Rattle.word.specs.Word.{num}
+use Rattle.rules.specs.Lent.{Lent, sizeOf, pagesOf, framesOf, roomOf, spanOf, lastOf, loggedOf, logOf, stampAt, dirtyAt}
+use Rattle.rules.specs.Sound.{every, upTo, zeros, between, isPageSize, inRange, exactLengths, s1-parameters, s2-lengths, s3-logged, s16-logged, s18-first, s15-stamps, s17-s19-dirty, s7-log-records, s14-log-zero, soundDurable}
+use Rattle.rules.specs.Shape.{Sized}
+use Rattle.durable.specs.Marks.{isRecord, soundCounts, stampWithin, soundStamps, soundDirty, dirtyWithin, soundDirties, soundMarks}
+use Rattle.durable.specs.Ranges.{Ranged}
+
+-- tests in a row
+pub and-two : (a b : Bool) → (a && b) ≡ true → (a ≡ true) × (b ≡ true)
+and-two true b h = (refl, h)
+and-two false b h = let z : _≡_ {A = ℕ} 0 1 = cc in absurd (omega arith)
+
+and-three : (a b c : Bool) → (a && b && c) ≡ true → (a ≡ true) × (b ≡ true) × (c ≡ true)
+and-three a b c h =
+    let x = and-two (a && b) c h in
+    let y = and-two a b (x .0) in
+    (y .0, y .1, x .1)
+
+and-five : (a b c d e : Bool) → (a && b && c && d && e) ≡ true → (a ≡ true) × (b ≡ true) × (c ≡ true) × (d ≡ true) × (e ≡ true)
+and-five a b c d e h =
+    let x = and-three (a && b && c) d e h in
+    let y = and-three a b c (x .0) in
+    (y .0, y .1, y .2, x .1, x .2)
+
+and-six : (a b c d e f : Bool) → (a && b && c && d && e && f) ≡ true → (a ≡ true) × (b ≡ true) × (c ≡ true) × (d ≡ true) × (e ≡ true) × (f ≡ true)
+and-six a b c d e f h =
+    let x = and-two (a && b && c && d && e) f h in
+    let y = and-five a b c d e (x .0) in
+    (y .0, y .1, y .2, y .3, y .4, x .1)
+
+and-nine : (a b c d e f g h i : Bool) → (a && b && c && d && e && f && g && h && i) ≡ true → (a ≡ true) × (b ≡ true) × (c ≡ true) × (d ≡ true) × (e ≡ true) × (f ≡ true) × (g ≡ true) × (h ≡ true) × (i ≡ true)
+and-nine a b c d e f g h i k =
+    let x = and-five (a && b && c && d && e) f g h i k in
+    let y = and-five a b c d e (x .0) in
+    (y .0, y .1, y .2, y .3, y .4, x .1, x .2, x .3, x .4)
+
+-- what a call that answers a test says, where its answer was negated
+pub refused : {a b : Bool} → a ≡ b → not a ≡ true → b ≡ false
+refused {a} {b} e h = sym e ∙ not-true a h
+
+pub passed : {a b : Bool} → a ≡ b → not a ≡ false → b ≡ true
+passed {a} {b} e h = sym e ∙ not-false a h
+
+-- a loop over n numbers that stops at the first that fails: none looked at yet, a turn, a stop and the end
+pub upTo-none : (b : ℕ → Bool) (n : ℕ) → upTo b (n - 0) 0 ≡ upTo b n 0
+upTo-none b n = let e : n - 0 ≡ n = omega arith in rw e
+
+pub upTo-turn : (b : ℕ → Bool) (n i : ℕ) (x : Bool) → i < n → b i ≡ true → upTo b (n - i) i ≡ x → upTo b (n - (i + 1)) (i + 1) ≡ x
+unfolding upTo
+upTo-turn b n i x p h inv =
+    let e : n - i ≡ suc (n - (i + 1)) = omega arith in
+    rw (e, h) at inv
+
+pub upTo-stop : (b : ℕ → Bool) (n i : ℕ) (x : Bool) → i < n → b i ≡ false → upTo b (n - i) i ≡ x → false ≡ x
+unfolding upTo
+upTo-stop b n i x p h inv =
+    let e : n - i ≡ suc (n - (i + 1)) = omega arith in
+    rw (e, h) at inv
+
+pub upTo-done : (b : ℕ → Bool) (n i : ℕ) (x : Bool) → n ≤ i → upTo b (n - i) i ≡ x → true ≡ x
+unfolding upTo
+upTo-done b n i x p inv =
+    let e : n - i ≡ 0 = omega arith in
+    rw e at inv
+
+-- the same over n rows of a table
+module _ (b : List ℕ → Bool) (w : ℕ) (t : List ℕ) (n : ℕ) where
+  pub rows-none : every b (rows w (n - 0) t 0) ≡ every b (rows w n t 0)
+  rows-none = let e : n - 0 ≡ n = omega arith in rw e
+
+  pub rows-turn : (i : ℕ) (x : Bool) {r : Bool} → i < n → r ≡ b (rowAt w t i) → not r ≡ false → every b (rows w (n - i) t i) ≡ x → every b (rows w (n - (i + 1)) t (i + 1)) ≡ x
+  unfolding rows every
+  rows-turn i x p f g inv =
+      let e : n - i ≡ suc (n - (i + 1)) = omega arith in
+      rw (e, passed f g) at inv
+
+  pub rows-stop : (i : ℕ) (x : Bool) {r : Bool} → i < n → r ≡ b (rowAt w t i) → not r ≡ true → every b (rows w (n - i) t i) ≡ x → false ≡ x
+  unfolding rows every
+  rows-stop i x p f g inv =
+      let e : n - i ≡ suc (n - (i + 1)) = omega arith in
+      rw (e, refused f g) at inv
+
+  pub rows-done : (i : ℕ) (x : Bool) → n ≤ i → every b (rows w (n - i) t i) ≡ x → true ≡ x
+  unfolding rows every
+  rows-done i x p inv =
+      let e : n - i ≡ 0 = omega arith in
+      rw e at inv
+
+-- the same over bytes that are to be zero
+pub zeros-turn : (l : List ℕ) (i : ℕ) (x : Bool) → i < length l → getD l i 0 ≡ 0 → zeros (drop i l) ≡ x → zeros (drop (i + 1) l) ≡ x
+unfolding zeros every
+zeros-turn l i x p h inv = rw add-one (rw (drop-cons l i 0 p, h) at inv)
+
+pub zeros-stop : (l : List ℕ) (i : ℕ) (x : Bool) → i < length l → (getD l i 0 ≡ 0 → ⊥) → zeros (drop i l) ≡ x → false ≡ x
+unfolding zeros every
+zeros-stop l i x p h inv = rw (drop-cons l i 0 p, ne-eqb (getD l i 0) 0 h) at inv
+
+pub zeros-done : (l : List ℕ) (i : ℕ) (x : Bool) → length l ≤ i → zeros (drop i l) ≡ x → true ≡ x
+unfolding zeros every
+zeros-done l i x p inv = rw (drop-of-length-le l {i = i} p) at inv
+
+-- what is lent of a list from a place on
+pub rest-lent : (l : List ℕ) (a : ℕ) → take (length l - a) (drop a l) ≡ drop a l
+rest-lent l a = take-all (length l - a) (drop a l) (rw (length-drop a l) (omega arith))
+
+-- a length that is none of 1, 2 and 4 is 8
+pub length-eight : (w : ℕ) → isLength w ≡ true → (w ≡ 1 → ⊥) → (w ≡ 2 → ⊥) → (w ≡ 4 → ⊥) → w ≡ 8
+unfolding isLength
+length-eight w h a b c = eqb-true w 8 (rw (ne-eqb w 1 a, ne-eqb w 2 b, ne-eqb w 4 c) at h)
+
+pub fits-at : (w k v : ℕ) → w ≡ k → ltb v (256 ^ k) ≡ ltb v (256 ^ w)
+fits-at w k v e = rw e
+
+pub fits-eight : (w v : ℕ) → w ≡ 8 → v < 2 ^ 64 → true ≡ ltb v (256 ^ w)
+fits-eight w v e h = rw e (sym (lt-ltb v (256 ^ 8) h))
+
+-- `is_record`: a bad length, and a good one
+bad-second : (p l o k v : Bool) → l ≡ false → false ≡ (p && l && o && k && v)
+bad-second true l o k v h = rw h
+bad-second false l o k v h = refl
+
+good-second : (p l o k v r : Bool) → l ≡ true → r ≡ v → (p && o && k && r) ≡ (p && l && o && k && v)
+good-second true l o k v r h e = rw (h, e)
+good-second false l o k v r h e = refl
+
+pub record-length : (size pages page offset w kind v : ℕ) → isLength w ≡ false → false ≡ isRecord size pages page offset w kind v
+unfolding isRecord
+record-length size pages page offset w kind v h = bad-second (ltb page pages) (isLength w) (leb (offset + w) size) (leb kind 1) (ltb v (256 ^ w)) h
+
+pub record-rest : (size pages page offset w kind v : ℕ) (r : Bool) → isLength w ≡ true → r ≡ ltb v (256 ^ w) → (ltb page pages && leb (offset + w) size && leb kind 1 && r) ≡ isRecord size pages page offset w kind v
+unfolding isRecord
+record-rest size pages page offset w kind v r h e = good-second (ltb page pages) (isLength w) (leb (offset + w) size) (leb kind 1) (ltb v (256 ^ w)) r h e
+
+-- `well_formed`: the fields are those of a row
+pub record-fields : (size pages page offset w kind v : ℕ) (r : List ℕ) (x : Bool) → page ≡ pageOf r → offset ≡ offsetOf r → w ≡ lengthOf r → kind ≡ kindOf r → v ≡ valueOf r → x ≡ isRecord size pages page offset w kind v → x ≡ wellFormed size pages r
+unfolding wellFormed isRecord
+record-fields size pages page offset w kind v r x a b c d e h = rw (← a, ← b, ← c, ← d, ← e) h
+
+-- `counts`: more records than the log holds, more than there are numbers, and neither
+pub counts-span : (last closed n span : ℕ) → span < n → false ≡ soundCounts last closed n span
+counts-span last closed n span h = rw (lt-leb n span h)
+
+pub counts-last : (last closed n span : ℕ) → n ≤ span → last < n → false ≡ soundCounts last closed n span
+counts-last last closed n span h k = rw (le-leb n span h, lt-leb n last k)
+
+pub counts-first : (last closed n span : ℕ) → n ≤ span → n ≤ last → leb (last - n + 1) (closed + 1) ≡ soundCounts last closed n span
+counts-first last closed n span h k = rw (le-leb n span h, le-leb n last k)
+
+-- `page_stamps`: a stamp above L, and one within it
+pub stamp-past : (marks : List ℕ) (last p r : ℕ) → r ≡ num 4 marks (stampAt p) → last < r → stampWithin marks last p ≡ false
+stamp-past marks last p r e h = rw (← e) (lt-leb r last h)
+
+pub stamp-within : (marks : List ℕ) (last p r : ℕ) → r ≡ num 4 marks (stampAt p) → r ≤ last → stampWithin marks last p ≡ true
+stamp-within marks last p r e h = rw (← e) (le-leb r last h)
+
+-- `dirty_numbers`: the number tested is the page's
+pub dirty-read : (marks : List ℕ) (pages first closed p d : ℕ) (r : Bool) → d ≡ num 4 marks (dirtyAt pages p) → r ≡ soundDirty first closed d → r ≡ dirtyWithin marks pages first closed p
+dirty-read marks pages first closed p d r e h = h ∙ ap (soundDirty first closed) e
+
+-- `stamps` and `sound_log`: what a call found stands behind a test
+pub and-found : (a b r : Bool) → r ≡ b → (a && r) ≡ (a && b)
+and-found a b r e = rw e
+
+pub log-found : (size pages n : ℕ) (log : List ℕ) (a b : Bool) → a ≡ every (wellFormed size pages) (rows 14 n log 0) → b ≡ zeros (take (length log - n * 14) (drop (n * 14) log)) → (a && b) ≡ (every (wellFormed size pages) (rows 14 n log 0) && zeros (drop (n * 14) log))
+log-found size pages n log a b e f = rw (e, f, rest-lent log (n * 14))
+
+-- the counts that `sound_marks` goes on with
+pub counts-hold : (last closed n span : ℕ) {r : Bool} → r ≡ soundCounts last closed n span → not r ≡ false → (n ≤ span) × (n ≤ last)
+counts-hold last closed n span f g =
+    let e = and-three (leb n span) (leb n last) (leb (last - n + 1) (closed + 1)) (passed f g) in
+    (leb-true n span (e .0), leb-true n last (e .1))
+
+-- `sound_marks`: what each check found, of the numbers that were read
+module _ (marks log : List ℕ) (size pages span last closed n : ℕ) (el : last ≡ num 4 marks 0) (ek : closed ≡ num 4 marks 4) (en : n ≡ num 4 marks 8) {r : Bool} (counted : r ≡ soundCounts last closed n span) where
+  pub marks-counts : not r ≡ true → false ≡ soundMarks marks log size pages span
+  unfolding soundMarks
+  marks-counts h = rw (← el, ← ek, ← en, refused counted h)
+
+  module _ (h : not r ≡ false) {t : Bool} (stamped : t ≡ soundStamps marks pages last closed) where
+    pub marks-stamps : not t ≡ true → false ≡ soundMarks marks log size pages span
+    unfolding soundMarks
+    marks-stamps i = rw (← el, ← ek, ← en, passed counted h, refused stamped i)
+
+    module _ (i : not t ≡ false) {d : Bool} (dirtied : d ≡ soundDirties marks pages (last - n + 1) closed) where
+      pub marks-dirty : not d ≡ true → false ≡ soundMarks marks log size pages span
+      unfolding soundMarks
+      marks-dirty j = rw (← el, ← ek, ← en, passed counted h, passed stamped i, refused dirtied j)
+
+      pub marks-log : {x : Bool} → not d ≡ false → x ≡ (every (wellFormed size pages) (rows 14 n log 0) && zeros (drop (n * 14) log)) → x ≡ soundMarks marks log size pages span
+      unfolding soundMarks
+      marks-log j k = rw (← el, ← ek, ← en, passed counted h, passed stamped i, passed dirtied j) k
+
+-- the ranges as bounds
+size-bounds : (n : ℕ) (a b c d : Bool) → eqb n 512 ≡ a → eqb n 1024 ≡ b → eqb n 2048 ≡ c → eqb n 4096 ≡ d → (a || b || c || d) ≡ true → (512 ≤ n) × (n ≤ 4096)
+size-bounds n true b c d ea eb ec ed h = let e : n ≡ 512 = eqb-true n 512 ea in (omega arith, omega arith)
+size-bounds n false true c d ea eb ec ed h = let e : n ≡ 1024 = eqb-true n 1024 eb in (omega arith, omega arith)
+size-bounds n false false true d ea eb ec ed h = let e : n ≡ 2048 = eqb-true n 2048 ec in (omega arith, omega arith)
+size-bounds n false false false true ea eb ec ed h = let e : n ≡ 4096 = eqb-true n 4096 ed in (omega arith, omega arith)
+size-bounds n false false false false ea eb ec ed h = let z : _≡_ {A = ℕ} 0 1 = cc in absurd (omega arith)
+
+between-bounds : (low n high : ℕ) → between low n high ≡ true → (low ≤ n) × (n ≤ high)
+between-bounds low n high h =
+    let e = and-two (leb low n) (leb n high) h in
+    (leb-true low n (e .0), leb-true n high (e .1))
+
+pub ranged : (size pages frames room span : ℕ) → inRange size pages frames room span ≡ true → Ranged size pages frames room span
+unfolding inRange isPageSize
+ranged size pages frames room span h =
+    let e = and-five (isPageSize size) (between 1 pages 1024) (between 1 frames 64) (between 1 room 512) (between 1 span 2048) h in
+    let s = size-bounds size _ _ _ _ refl refl refl refl (e .0) in
+    let p = between-bounds 1 pages 1024 (e .1) in
+    let f = between-bounds 1 frames 64 (e .2) in
+    let o = between-bounds 1 room 512 (e .3) in
+    let l = between-bounds 1 span 2048 (e .4) in
+    record {
+      size-least = s .0;
+      size-most = s .1;
+      pages-least = p .0;
+      pages-most = p .1;
+      frames-least = f .0;
+      frames-most = f .1;
+      room-least = o .0;
+      room-most = o .1;
+      span-least = l .0;
+      span-most = l .1;
+    }
+
+-- an area of pages or frames stays small
+pub area-small : (size n : ℕ) → size ≤ 4096 → n ≤ 1024 → size * n ≤ 4194304
+area-small size n h k = mul-le-mul {n₁ = size} {m₁ = n} {n₂ = 4096} {m₂ = 1024} h k
+
+-- the six lengths that `exact_lengths` found
+lengths-each : (s : Lent) (size pages frames room span : ℕ) → exactLengths s size pages frames room span ≡ true → (length (s .durable .marks) ≡ 12 + 8 * pages) × (length (s .durable .log) ≡ 14 * span) × (length (s .durable .stored) ≡ size * pages) × (length (s .lost .tables) ≡ 35 + frames + pages) × (length (s .lost .online) ≡ 19 * room) × (length (s .lost .pool) ≡ size * frames)
+unfolding exactLengths
+lengths-each s size pages frames room span h =
+    let e =
+    and-six (eqb (length (s .durable .marks)) (12 + 8 * pages)) (eqb (length (s .durable .log)) (14 * span)) (eqb (length (s .durable .stored)) (size * pages))
+    (eqb (length (s .lost .tables)) (35 + frames + pages)) (eqb (length (s .lost .online)) (19 * room)) (eqb (length (s .lost .pool)) (size * frames)) h
+    in (
+      eqb-true (length (s .durable .marks)) (12 + 8 * pages) (e .0),
+      eqb-true (length (s .durable .log)) (14 * span) (e .1),
+      eqb-true (length (s .durable .stored)) (size * pages) (e .2),
+      eqb-true (length (s .lost .tables)) (35 + frames + pages) (e .3),
+      eqb-true (length (s .lost .online)) (19 * room) (e .4),
+      eqb-true (length (s .lost .pool)) (size * frames) (e .5),
+    )
+
+-- the two that `sound_marks` asks for
+pub lengths-marks : (s : Lent) (size pages frames room span : ℕ) {r : Bool} → r ≡ exactLengths s size pages frames room span → not r ≡ false → (length (s .durable .marks) ≡ 12 + 8 * pages) × (length (s .durable .log) ≡ 14 * span)
+lengths-marks s size pages frames room span f g =
+    let e = lengths-each s size pages frames room span (passed f g) in
+    (e .0, e .1)
+
+-- `sound_durable`: what each check found
+pub durable-fixed : (s : Lent) → (length (s .durable .fixed) ≡ 20 → ⊥) → false ≡ soundDurable s
+unfolding soundDurable s1-parameters
+durable-fixed s h = rw (ne-eqb (length (s .durable .fixed)) 20 h)
+
+module _ (s : Lent) (size pages frames room span : ℕ) (fixed : length (s .durable .fixed) ≡ 20)
+    (given : (size ≡ num 4 (s .durable .fixed) 0) × (pages ≡ num 4 (s .durable .fixed) 4) × (frames ≡ num 4 (s .durable .fixed) 8) × (room ≡ num 4 (s .durable .fixed) 12) × (span ≡ num 4 (s .durable .fixed) 16)) where
+  first-clause : (b : Bool) → inRange size pages frames room span ≡ b → s1-parameters s ≡ b
+  unfolding s1-parameters
+  first-clause b h = rw (eq-eqb (length (s .durable .fixed)) 20 fixed, ← given .0, ← given .1, ← given .2, ← given .3, ← given .4) h
+
+  second-clause : (b : Bool) → exactLengths s size pages frames room span ≡ b → s2-lengths s ≡ b
+  unfolding s2-lengths
+  second-clause b h = rw (← given .0, ← given .1, ← given .2, ← given .3, ← given .4) h
+
+  module _ {r : Bool} (within : r ≡ inRange size pages frames room span) where
+    pub durable-range : not r ≡ true → false ≡ soundDurable s
+    unfolding soundDurable
+    durable-range h = rw (first-clause false (refused within h))
+
+    module _ (h : not r ≡ false) {t : Bool} (exact : t ≡ exactLengths s size pages frames room span) where
+      pub durable-lengths : not t ≡ true → false ≡ soundDurable s
+      unfolding soundDurable
+      durable-lengths i = rw (first-clause true (passed within h), second-clause false (refused exact i))
+
+      pub durable-marks : {x : Bool} → not t ≡ false → x ≡ soundMarks (s .durable .marks) (s .durable .log) size pages span → x ≡ soundDurable s
+      unfolding soundDurable soundMarks s3-logged s16-logged s18-first s15-stamps s17-s19-dirty s7-log-records s14-log-zero
+      durable-marks i e = rw (first-clause true (passed within h), second-clause true (passed exact i), ← given .0, ← given .1, ← given .4) e
+
+-- what a sound durable part gives
+durable-clauses : (s : Lent) → soundDurable s ≡ true → (s1-parameters s ≡ true) × (s2-lengths s ≡ true) × (s3-logged s ≡ true) × (s16-logged s ≡ true) × (s18-first s ≡ true) × (s15-stamps s ≡ true) × (s17-s19-dirty s ≡ true) × (s7-log-records s ≡ true) × (s14-log-zero s ≡ true)
+unfolding soundDurable
+durable-clauses s h = and-nine (s1-parameters s) (s2-lengths s) (s3-logged s) (s16-logged s) (s18-first s) (s15-stamps s) (s17-s19-dirty s) (s7-log-records s) (s14-log-zero s) h
+
+pub durable-sized : (s : Lent) → soundDurable s ≡ true → Sized s
+unfolding s1-parameters s2-lengths
+durable-sized s h =
+    let e = durable-clauses s h in
+    let p = and-two (eqb (length (s .durable .fixed)) 20) (inRange (sizeOf s) (pagesOf s) (framesOf s) (roomOf s) (spanOf s)) (e .0) in
+    let r = ranged (sizeOf s) (pagesOf s) (framesOf s) (roomOf s) (spanOf s) (p .1) in
+    let l = lengths-each s (sizeOf s) (pagesOf s) (framesOf s) (roomOf s) (spanOf s) (e .1) in
+    record {
+      fixed = eqb-true (length (s .durable .fixed)) 20 (p .0);
+      size-least = r .size-least;
+      size = r .size-most;
+      pages-least = r .pages-least;
+      pages = r .pages-most;
+      frames-least = r .frames-least;
+      frames = r .frames-most;
+      room = r .room-most;
+      span = r .span-most;
+      marks = l .0;
+      log = l .1;
+      stored = l .2;
+      tables = l .3;
+      online = l .4;
+      pool = l .5;
+    }
+
+pub durable-logged : (s : Lent) → soundDurable s ≡ true → (loggedOf s ≤ spanOf s) × (loggedOf s ≤ lastOf s)
+unfolding s3-logged s16-logged
+durable-logged s h =
+    let e = durable-clauses s h in
+    (leb-true (loggedOf s) (spanOf s) (e .2), leb-true (loggedOf s) (lastOf s) (e .3))
+
+pub durable-log-records : (s : Lent) → soundDurable s ≡ true → every (wellFormed (sizeOf s) (pagesOf s)) (logOf s) ≡ true
+unfolding s7-log-records
+durable-log-records s h = durable-clauses s h .7

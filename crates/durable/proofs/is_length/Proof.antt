@@ -1,0 +1,12 @@
+-- `durable::is_length` meets its contract: the tests are the definition.
+use mathlib.Core.Path.{refl}
+use Rattle.record.specs.Record.{isLength}
+use Rattle.durable.proofs.is_length.Statement.{statement}
+use Rattle.durable.proofs.is_length.Tie as tie
+
+returns : tie.Need-returns
+unfolding isLength
+returns c = refl
+
+pub is-length-spec : {M : Type 1} → statement M
+is-length-spec = tie.close (tie.spec returns)

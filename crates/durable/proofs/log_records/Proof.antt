@@ -1,0 +1,60 @@
+-- `durable::log_records` meets its contract: the rows still to be looked at decide.
+use borrow.Author.Needs.{needs}
+use Prim.Native.Nat.{_-_, _≤_}
+use mathlib.Core.Path.{_≡_}
+use denote.Ref.{now}
+use Rattle.record.specs.Rows.{rows}
+use Rattle.record.specs.Record.{wellFormed}
+use Rattle.rules.specs.Sound.{every}
+use Rattle.durable.proofs.Laws.{rows-none, rows-turn, rows-stop, rows-done}
+use Rattle.durable.proofs.log_records.Statement.{statement}
+use Rattle.durable.proofs.log_records.Tie as tie
+
+abbrev Inv-loop : tie.InvT-loop
+Inv-loop log n size pages i₀ i = (i ≤ n) × (every (wellFormed size pages) (rows 14 (n - i) log i) ≡ every (wellFormed size pages) (rows 14 n log 0))
+
+abbrev μ-loop : tie.MeasureT-loop
+μ-loop log n size pages i₀ i = n - i
+
+loop-holds : tie.Need-loop-holds Inv-loop μ-loop
+loop-holds c =
+    let a = c .before .args in
+    (search needs, rows-none (wellFormed (a .size) (a .pages)) 14 (now (a .log)) (a .n))
+
+well-formed-requires : tie.Need-well-formed-requires Inv-loop μ-loop
+well-formed-requires c κs = search needs
+
+returns : tie.Need-returns Inv-loop μ-loop
+returns c =
+    let a = c .before .before .before .before .before .args in
+    rows-stop (wellFormed (a .size) (a .pages)) 14 (now (a .log)) (a .n) (c .before .before .before .loop .i) _ (c .before .before .loop-test .taken) (c .before .well-formed .ensures) (c .if1 .taken) (c .before .before .before .loop .inv .1)
+
+add-i : tie.Need-add-i Inv-loop μ-loop
+add-i c = search needs
+
+loop-less : tie.Need-loop-less Inv-loop μ-loop
+loop-less c = search needs
+
+loop-again : tie.Need-loop-again Inv-loop μ-loop
+loop-again c =
+    let a = c .before .before .before .before .before .args in
+    (search needs, rows-turn (wellFormed (a .size) (a .pages)) 14 (now (a .log)) (a .n) (c .before .before .before .loop .i) _ (c .before .before .loop-test .taken) (c .before .well-formed .ensures) (c .if1 .left) (c .before .before .before .loop .inv .1))
+
+returns-2 : tie.Need-returns-2 Inv-loop μ-loop
+returns-2 c =
+    let a = c .before .before .before .args in
+    rows-done (wellFormed (a .size) (a .pages)) 14 (now (a .log)) (a .n) (c .before .loop .i) _ (c .loop-test .left) (c .before .loop .inv .1)
+
+pub log-records-spec : {M : Type 1} → statement M
+log-records-spec =
+    tie.close
+    (tie.spec
+    Inv-loop
+    μ-loop
+    loop-holds
+    well-formed-requires
+    returns
+    add-i
+    loop-less
+    loop-again
+    returns-2)

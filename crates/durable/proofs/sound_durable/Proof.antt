@@ -1,0 +1,73 @@
+-- `durable::sound_durable` meets its contract: each way out is the first clause that fails, and the last call decides the rest.
+use borrow.Author.Needs.{needs}
+use denote.Ref.{now}
+use Rattle.rules.specs.Lent.{lentOf}
+use Rattle.durable.proofs.Laws.{passed, lengths-marks, durable-fixed, durable-range, durable-lengths, durable-marks}
+use Rattle.durable.proofs.sound_durable.Statement.{statement}
+use Rattle.durable.proofs.sound_durable.Tie as tie
+
+returns : tie.Need-returns
+returns c =
+    let a = c .before .before .before .before .before .before .before .before .args in
+    let s = lentOf (now (a .fixed)) (now (a .marks)) (now (a .log)) (now (a .stored)) (now (a .tables)) (now (a .online)) (now (a .pool)) in
+    durable-fixed s (c .if1 .taken)
+
+params-of-requires : tie.Need-params-of-requires
+params-of-requires c κs = search needs
+
+in-range-requires : tie.Need-in-range-requires
+in-range-requires c κs = search needs
+
+returns-2 : tie.Need-returns-2
+returns-2 c =
+    let a = c .before .before .before .before .before .before .before .before .before .before .before .args in
+    let s = lentOf (now (a .fixed)) (now (a .marks)) (now (a .log)) (now (a .stored)) (now (a .tables)) (now (a .online)) (now (a .pool)) in
+    let p = c .before .before .params-of .result in
+    durable-range s (p .size) (p .pages) (p .frames) (p .room) (p .span)
+    (c .before .before .before .if1 .left) (c .before .before .params-of .ensures)
+    (c .before .in-range .ensures) (c .if2 .taken)
+
+exact-lengths-requires : tie.Need-exact-lengths-requires
+exact-lengths-requires c κs = passed (c .before .in-range .ensures) (c .if2 .left)
+
+returns-3 : tie.Need-returns-3
+returns-3 c =
+    let a = c .before .before .before .before .before .before .before .before .before .before .before .before .before .args in
+    let s = lentOf (now (a .fixed)) (now (a .marks)) (now (a .log)) (now (a .stored)) (now (a .tables)) (now (a .online)) (now (a .pool)) in
+    let p = c .before .before .before .before .params-of .result in
+    durable-lengths s (p .size) (p .pages) (p .frames) (p .room) (p .span)
+    (c .before .before .before .before .before .if1 .left) (c .before .before .before .before .params-of .ensures)
+    (c .before .before .before .in-range .ensures) (c .before .before .if2 .left)
+    (c .before .exact-lengths .ensures (now (a .fixed))) (c .if3 .taken)
+
+sound-marks-requires : tie.Need-sound-marks-requires
+sound-marks-requires c κs =
+    let a = c .before .before .before .before .before .before .before .before .before .before .before .before .before .args in
+    let s = lentOf (now (a .fixed)) (now (a .marks)) (now (a .log)) (now (a .stored)) (now (a .tables)) (now (a .online)) (now (a .pool)) in
+    let p = c .before .before .before .before .params-of .result in
+    lengths-marks s (p .size) (p .pages) (p .frames) (p .room) (p .span)
+    (c .before .exact-lengths .ensures (now (a .fixed))) (c .if3 .left)
+
+returns-4 : tie.Need-returns-4
+returns-4 c =
+    let a = c .before .before .before .before .before .before .before .before .before .before .before .before .before .before .args in
+    let s = lentOf (now (a .fixed)) (now (a .marks)) (now (a .log)) (now (a .stored)) (now (a .tables)) (now (a .online)) (now (a .pool)) in
+    let p = c .before .before .before .before .before .params-of .result in
+    durable-marks s (p .size) (p .pages) (p .frames) (p .room) (p .span)
+    (c .before .before .before .before .before .before .if1 .left) (c .before .before .before .before .before .params-of .ensures)
+    (c .before .before .before .before .in-range .ensures) (c .before .before .before .if2 .left)
+    (c .before .before .exact-lengths .ensures (now (a .fixed))) (c .before .if3 .left)
+    (c .sound-marks .ensures)
+
+pub sound-durable-spec : {M : Type 1} → statement M
+sound-durable-spec =
+    tie.close
+    (tie.spec
+    returns
+    params-of-requires
+    in-range-requires
+    returns-2
+    exact-lengths-requires
+    returns-3
+    sound-marks-requires
+    returns-4)

@@ -1,0 +1,294 @@
+// Whether the parameters, the lent lengths and the durable part of the tables are sound: what restart checks, and every call but format.
+// `sound_durable` takes any bytes. Each inner check asks for what the checks before it have shown.
+ghost use mathlib.Core.Path.{_≡_};
+ghost use mathlib.Core.Bool.{true, _&&_};
+ghost use mathlib.Core.List.{List};
+ghost use Prim.Native.Nat.{ℕ, _+_, _*_, _^_, _≤_, _<_};
+ghost use lib.ListN.{length, drop};
+ghost use lib.Dec.{ltb};
+ghost use Rattle.word.specs.Word.{num};
+ghost use Rattle.record.specs.Rows.{rowAt, rows};
+ghost use Rattle.record.specs.Record.{isLength, wellFormed};
+ghost use Rattle.rules.specs.Lent.{lentOf};
+ghost use Rattle.rules.specs.Sound.{every, upTo, zeros, isPageSize, inRange, exactLengths, soundDurable};
+ghost use Rattle.durable.specs.Marks.{isRecord, soundCounts, stampWithin, soundStamps, soundDirty, soundDirties, soundMarks};
+use number::LogNo;
+use number::PageNo;
+
+// Every byte is zero.
+pub fn all_zero(s: &[u8]) -> bool
+    ensures { λ r. ⌜ r ≡ zeros (now (s .entry)) ⌝ }
+{
+    let mut i = 0;
+    while i < s.len() {
+        if s[i] != 0 {
+            return false;
+        }
+        i += 1;
+    }
+    true
+}
+
+// A length is 1, 2, 4 or 8.
+pub fn is_length(w: usize) -> bool
+    ensures { λ r. ⌜ r ≡ isLength w ⌝ }
+{
+    (w == 1) | (w == 2) | (w == 4) | (w == 8)
+}
+
+// A value is below 256 to the power of its length; at 8 bytes every value is.
+pub fn value_fits(w: usize, v: u64) -> bool
+    requires { ⌜ isLength w ≡ true ⌝ }
+    ensures { λ r. ⌜ r ≡ ltb v (256 ^ w) ⌝ }
+{
+    if w == 1 {
+        return v < 256;
+    }
+    if w == 2 {
+        return v < 65536;
+    }
+    if w == 4 {
+        return v < 4294967296;
+    }
+    true
+}
+
+// The fields of a record are in their ranges.
+fn is_record(
+    page: PageNo,
+    offset: usize,
+    w: usize,
+    kind: u8,
+    v: u64,
+    size: usize,
+    pages: usize,
+) -> bool
+    requires { ⌜ (offset < 65536) × (w < 256) ⌝ }
+    ensures { λ r. ⌜ r ≡ isRecord size pages (page .0) offset w kind v ⌝ }
+{
+    if !is_length(w) {
+        return false;
+    }
+    (page.0 < pages) & (offset + w <= size) & (kind <= 1) & value_fits(w, v)
+}
+
+// Row i of a table whose rows have w bytes is a record.
+pub fn well_formed(t: &[u8], w: usize, i: usize, size: usize, pages: usize) -> bool
+    requires { ⌜ (14 ≤ w) × (i * w + w ≤ length (now t)) ⌝ }
+    ensures { λ r. ⌜ r ≡ wellFormed size pages (rowAt w (now (t .entry)) i) ⌝ }
+{
+    let page = record::page_of(t, w, i);
+    let offset = record::offset_of(t, w, i);
+    let length = record::length_of(t, w, i);
+    let kind = record::kind_of(t, w, i);
+    let v = record::value_of(t, w, i);
+    is_record(page, offset, length, kind, v, size, pages)
+}
+
+// The first n log rows are records.
+fn log_records(log: &[u8], n: usize, size: usize, pages: usize) -> bool
+    requires { ⌜ n * 14 ≤ length (now log) ⌝ }
+    ensures { λ r. ⌜ r ≡ every (wellFormed size pages) (rows 14 n (now (log .entry)) 0) ⌝ }
+{
+    let mut i = 0;
+    while i < n {
+        if !well_formed(log, 14, i, size, pages) {
+            return false;
+        }
+        i += 1;
+    }
+    true
+}
+
+// The log holds n of at most span records, and its first number is at most K + 1.
+fn counts(last: LogNo, closed: LogNo, n: u64, span: u64) -> bool
+    requires { ⌜ (last .0 < 4294967296) × (closed .0 < 4294967296) ⌝ }
+    ensures { λ r. ⌜ r ≡ soundCounts (last .0) (closed .0) n span ⌝ }
+{
+    if span < n {
+        return false;
+    }
+    if last.0 < n {
+        return false;
+    }
+    last.0 - n + 1 <= closed.0 + 1
+}
+
+// Every stamp is at most L.
+fn page_stamps(marks: &[u8], pages: usize, last: LogNo) -> bool
+    requires { ⌜ 12 + 8 * pages ≤ length (now marks) ⌝ }
+    ensures { λ r. ⌜ r ≡ upTo (stampWithin (now (marks .entry)) (last .0)) pages 0 ⌝ }
+{
+    let mut p = 0;
+    while p < pages {
+        if last.0 < word::load(marks, 12 + 4 * p, 4) {
+            return false;
+        }
+        p += 1;
+    }
+    true
+}
+
+// K and every stamp are at most L.
+fn stamps(marks: &[u8], pages: usize, last: LogNo, closed: LogNo) -> bool
+    requires { ⌜ 12 + 8 * pages ≤ length (now marks) ⌝ }
+    ensures { λ r. ⌜ r ≡ soundStamps (now (marks .entry)) pages (last .0) (closed .0) ⌝ }
+{
+    (closed.0 <= last.0) & page_stamps(marks, pages, last)
+}
+
+// A dirty number is none, or from the log's first number to K.
+fn is_dirty_number(d: LogNo, first: LogNo, closed: LogNo) -> bool
+    ensures { λ r. ⌜ r ≡ soundDirty (first .0) (closed .0) (d .0) ⌝ }
+{
+    (d.0 == 0) | ((first.0 <= d.0) & (d.0 <= closed.0))
+}
+
+// Every page's dirty number is one.
+fn dirty_numbers(marks: &[u8], pages: usize, first: LogNo, closed: LogNo) -> bool
+    requires { ⌜ 12 + 8 * pages ≤ length (now marks) ⌝ }
+    ensures { λ r. ⌜ r ≡ soundDirties (now (marks .entry)) pages (first .0) (closed .0) ⌝ }
+{
+    let mut p = 0;
+    while p < pages {
+        let d = LogNo(word::load(marks, 12 + 4 * pages + 4 * p, 4));
+        if !is_dirty_number(d, first, closed) {
+            return false;
+        }
+        p += 1;
+    }
+    true
+}
+
+// A page size is 512, 1,024, 2,048 or 4,096.
+fn is_page_size(size: u64) -> bool
+    ensures { λ r. ⌜ r ≡ isPageSize size ⌝ }
+{
+    (size == 512) | (size == 1024) | (size == 2048) | (size == 4096)
+}
+
+// The parameters are in their ranges.
+pub fn in_range(size: u64, pages: u64, frames: u64, room: u64, span: u64) -> bool
+    ensures { λ r. ⌜ r ≡ inRange size pages frames room span ⌝ }
+{
+    is_page_size(size)
+        & ((1 <= pages) & (pages <= 1024))
+        & ((1 <= frames) & (frames <= 64))
+        & ((1 <= room) & (room <= 512))
+        & ((1 <= span) & (span <= 2048))
+}
+
+// The areas beside `fixed` have the lengths of these parameters.
+pub fn exact_lengths(
+    marks: &[u8],
+    log: &[u8],
+    stored: &[u8],
+    tables: &[u8],
+    online: &[u8],
+    pool: &[u8],
+    size: u64,
+    pages: u64,
+    frames: u64,
+    room: u64,
+    span: u64,
+) -> bool
+    requires { ⌜ inRange size pages frames room span ≡ true ⌝ }
+    ensures { λ r. ⌜ ((fixed : List ℕ) → r ≡ exactLengths (lentOf fixed (now (marks .entry)) (now (log .entry)) (now (stored .entry)) (now (tables .entry)) (now (online .entry)) (now (pool .entry))) size pages frames room span) ⌝ }
+{
+    (marks.len() as u64 == 12 + 8 * pages)
+        & (log.len() as u64 == 14 * span)
+        & (stored.len() as u64 == size * pages)
+        & (tables.len() as u64 == 35 + frames + pages)
+        & (online.len() as u64 == 19 * room)
+        & (pool.len() as u64 == size * frames)
+}
+
+// What format was given.
+pub struct Params {
+    pub size: u64,
+    pub pages: u64,
+    pub frames: u64,
+    pub room: u64,
+    pub span: u64,
+}
+
+// The parameters as `fixed` holds them.
+pub fn params_of(fixed: &[u8]) -> Params
+    requires { ⌜ length (now fixed) ≡ 20 ⌝ }
+    ensures { λ r. ⌜ (r .size ≡ num 4 (now (fixed .entry)) 0) × (r .pages ≡ num 4 (now (fixed .entry)) 4) × (r .frames ≡ num 4 (now (fixed .entry)) 8) × (r .room ≡ num 4 (now (fixed .entry)) 12) × (r .span ≡ num 4 (now (fixed .entry)) 16) ⌝ }
+{
+    Params {
+        size: word::load(fixed, 0, 4),
+        pages: word::load(fixed, 4, 4),
+        frames: word::load(fixed, 8, 4),
+        room: word::load(fixed, 12, 4),
+        span: word::load(fixed, 16, 4),
+    }
+}
+
+// The log: n rows that are records, and zeros behind them.
+fn sound_log(log: &[u8], n: usize, size: usize, pages: usize) -> bool
+    requires { ⌜ n * 14 ≤ length (now log) ⌝ }
+    ensures { λ r. ⌜ r ≡ (every (wellFormed size pages) (rows 14 n (now (log .entry)) 0) && zeros (drop (n * 14) (now (log .entry)))) ⌝ }
+{
+    let end = n * 14;
+    log_records(log, n, size, pages) & all_zero(&log[end..])
+}
+
+// The marks and the log, once parameters and lengths are right.
+fn sound_marks(marks: &[u8], log: &[u8], size: usize, pages: usize, span: u64) -> bool
+    requires { ⌜ (length (now marks) ≡ 12 + 8 * pages) × (length (now log) ≡ 14 * span) ⌝ }
+    ensures { λ r. ⌜ r ≡ soundMarks (now (marks .entry)) (now (log .entry)) size pages span ⌝ }
+{
+    let last = LogNo(word::load(marks, 0, 4));
+    let closed = LogNo(word::load(marks, 4, 4));
+    let n = word::load(marks, 8, 4);
+    if !counts(last, closed, n, span) {
+        return false;
+    }
+    if !stamps(marks, pages, last, closed) {
+        return false;
+    }
+    let first = LogNo(last.0 - n + 1);
+    if !dirty_numbers(marks, pages, first, closed) {
+        return false;
+    }
+    sound_log(log, n as usize, size, pages)
+}
+
+// The parameters, the lengths and the durable part of any lent tables are sound.
+pub fn sound_durable(
+    fixed: &[u8],
+    marks: &[u8],
+    log: &[u8],
+    stored: &[u8],
+    tables: &[u8],
+    online: &[u8],
+    pool: &[u8],
+) -> bool
+    ensures { λ r. ⌜ r ≡ soundDurable (lentOf (now (fixed .entry)) (now (marks .entry)) (now (log .entry)) (now (stored .entry)) (now (tables .entry)) (now (online .entry)) (now (pool .entry))) ⌝ }
+{
+    if fixed.len() != 20 {
+        return false;
+    }
+    let p = params_of(fixed);
+    if !in_range(p.size, p.pages, p.frames, p.room, p.span) {
+        return false;
+    }
+    if !exact_lengths(
+        marks,
+        log,
+        stored,
+        tables,
+        online,
+        pool,
+        p.size,
+        p.pages,
+        p.frames,
+        p.room,
+        p.span,
+    ) {
+        return false;
+    }
+    sound_marks(marks, log, p.size as usize, p.pages as usize, p.span)
+}
