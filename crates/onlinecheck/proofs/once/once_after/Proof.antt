@@ -1,0 +1,64 @@
+-- `onlinecheck::once::once_after` meets its contract: the rows still to come decide as all later ones do.
+use borrow.Author.Needs.{needs}
+use Prim.Native.Nat.{_+_, _-_, _≤_}
+use denote.Ref.{now}
+use mathlib.Core.Path.{_≡_, refl}
+use Rattle.record.specs.Rows.{rowAt, rows}
+use Rattle.rules.specs.Sound.{every}
+use Rattle.onlinecheck.specs.Online.{otherNumber}
+use Rattle.onlinecheck.proofs.Rows.{every-fail, every-turn, every-done}
+use Rattle.onlinecheck.proofs.once.once_after.Statement.{statement}
+use Rattle.onlinecheck.proofs.once.once_after.Tie as tie
+
+abbrev Inv-loop : tie.InvT-loop
+Inv-loop t i m j₀ j = (j ≤ m) × (every (otherNumber (rowAt 19 t i)) (rows 19 (m - j) t j) ≡ every (otherNumber (rowAt 19 t i)) (rows 19 (m - (i + 1)) t (i + 1)))
+
+abbrev μ-loop : tie.MeasureT-loop
+μ-loop t i m j₀ j = m - j
+
+add-j : tie.Need-add-j Inv-loop μ-loop
+add-j c = search needs
+
+loop-holds : tie.Need-loop-holds Inv-loop μ-loop
+loop-holds c = (search needs, refl)
+
+is-other-requires : tie.Need-is-other-requires Inv-loop μ-loop
+is-other-requires c κs = search needs
+
+returns : tie.Need-returns Inv-loop μ-loop
+returns c =
+    let a = c .before .before .before .before .before .args in
+    every-fail (otherNumber (rowAt 19 (now (a .t)) (a .i))) 19 (a .m) (now (a .t)) _ _ _ (c .before .before .loop-test .taken) (c .if1 .taken) (c .before .is-other .ensures) (c .before .before .before .loop .inv .1)
+
+add-j-2 : tie.Need-add-j-2 Inv-loop μ-loop
+add-j-2 c = search needs
+
+loop-less : tie.Need-loop-less Inv-loop μ-loop
+loop-less c = search needs
+
+loop-again : tie.Need-loop-again Inv-loop μ-loop
+loop-again c =
+    let a = c .before .before .before .before .before .args in (
+      search needs,
+      every-turn (otherNumber (rowAt 19 (now (a .t)) (a .i))) 19 (a .m) (now (a .t)) _ _ _ (c .before .before .loop-test .taken) (c .if1 .left) (c .before .is-other .ensures) (c .before .before .before .loop .inv .1),
+    )
+
+returns-2 : tie.Need-returns-2 Inv-loop μ-loop
+returns-2 c =
+    let a = c .before .before .before .args in
+    every-done (otherNumber (rowAt 19 (now (a .t)) (a .i))) 19 (a .m) (now (a .t)) _ _ (c .loop-test .left) (c .before .loop .inv .1)
+
+pub once-after-spec : {M : Type 1} → statement M
+once-after-spec =
+    tie.close
+    (tie.spec
+    Inv-loop
+    μ-loop
+    add-j
+    loop-holds
+    is-other-requires
+    returns
+    add-j-2
+    loop-less
+    loop-again
+    returns-2)

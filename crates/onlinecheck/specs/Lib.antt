@@ -1,0 +1,2 @@
+-- What the contracts of `onlinecheck` cite.
+pub mod Online

@@ -1,0 +1,76 @@
+// The check of the online table: the clauses of soundness that are about its rows, in their order.
+// A clause runs once those before it hold, and may lean on them.
+ghost use mathlib.Core.Path.{_≡_};
+ghost use mathlib.Core.Bool.{true, _&&_};
+ghost use Prim.Native.Nat.{_+_, _*_, _-_, _≤_, _<_};
+ghost use lib.ListN.{length, drop};
+ghost use Rattle.record.specs.Part.{part};
+ghost use Rattle.record.specs.Rows.{rows};
+ghost use Rattle.record.specs.Record.{wellFormed};
+ghost use Rattle.rules.specs.Sound.{every, pairs, upTo, zeros, apart};
+ghost use Rattle.onlinecheck.specs.Online.{owned, inLog, aboveStamp, otherNumber, entryAgrees, pageBelow, onlineTest};
+
+mod formed; // S7
+mod owned; // S8
+mod tail; // S14
+mod logged; // S10
+mod stamped; // S11
+mod once; // S9
+mod dirty; // S12
+mod apart; // S13
+
+// The rows by themselves, with their owners and the log.
+fn sound_rows(online: &[u8], m: usize, log: &[u8], n: usize, tables: &[u8], size: usize, pages: usize, last: u64) -> bool
+    requires { ⌜ (m * 19 ≤ length (now online)) × (n * 14 ≤ length (now log)) × (n ≤ last) × (last < 4294967296) × (35 ≤ length (now tables)) ⌝ }
+    ensures { λ r. ⌜ r ≡ (every (wellFormed size pages) (rows 19 m (now (online .entry)) 0) && every (owned (now (tables .entry)) last) (rows 19 m (now (online .entry)) 0) && zeros (drop (m * 19) (now (online .entry))) && every (inLog (now (log .entry)) (last - n + 1)) (rows 19 m (now (online .entry)) 0)) ⌝ }
+{
+    if !formed::all_formed(online, m, size, pages) {
+        return false;
+    }
+    if !owned::all_owned(online, m, tables, last) {
+        return false;
+    }
+    if !tail::zero_from(online, m * 19) {
+        return false;
+    }
+    logged::all_logged(online, m, log, n, last)
+}
+
+// The rows with the stamps, the entries and one another.
+fn sound_ties(online: &[u8], m: usize, marks: &[u8], tables: &[u8], pages: usize, frames: usize) -> bool
+    requires { ⌜ (m * 19 ≤ length (now online)) × (length (now marks) ≡ 12 + 8 * pages) × (length (now tables) ≡ 35 + frames + pages) × (every (pageBelow pages) (rows 19 m (now online) 0) ≡ true) ⌝ }
+    ensures { λ r. ⌜ r ≡ (every (aboveStamp (now (marks .entry))) (rows 19 m (now (online .entry)) 0) && pairs otherNumber (rows 19 m (now (online .entry)) 0) && upTo (entryAgrees (part (35 + frames) pages (now (tables .entry))) (rows 19 m (now (online .entry)) 0)) pages 0 && pairs apart (rows 19 m (now (online .entry)) 0)) ⌝ }
+{
+    if !stamped::all_above(online, m, marks, pages) {
+        return false;
+    }
+    if !once::all_once(online, m) {
+        return false;
+    }
+    if !dirty::all_agree(online, m, tables, pages, frames) {
+        return false;
+    }
+    apart::all_apart(online, m)
+}
+
+// The first m rows of the online table are sound with the n log rows, the stamps and the tables; `last` is the last log number.
+pub fn sound_online(
+    online: &[u8],
+    m: usize,
+    log: &[u8],
+    n: usize,
+    marks: &[u8],
+    tables: &[u8],
+    size: usize,
+    pages: usize,
+    frames: usize,
+    last: u64,
+) -> bool
+    requires { ⌜ (m * 19 ≤ length (now online)) × (n * 14 ≤ length (now log)) × (n ≤ last) × (last < 4294967296) × (length (now marks) ≡ 12 + 8 * pages) × (length (now tables) ≡ 35 + frames + pages) × (pages ≤ 1024) × (frames ≤ 64) × (size ≤ 4096) × (m ≤ 512) × (n ≤ 2048) ⌝ }
+    ensures { λ r. ⌜ r ≡ onlineTest (now (online .entry)) m (now (log .entry)) n (now (marks .entry)) (now (tables .entry)) size pages frames last ⌝ }
+{
+    if !sound_rows(online, m, log, n, tables, size, pages, last) {
+        return false;
+    }
+    sound_ties(online, m, marks, tables, pages, frames)
+}
