@@ -1,0 +1,2 @@
+-- What soundness gives to the calls.
+pub mod Laws
