@@ -1,0 +1,140 @@
+-- Laws of the smaller number, of rows that lower dirty numbers, of the smallest committed number, and of what is dropped.
+use Prim.Native.Nat.{ℕ, zero, suc, _+_, _*_, _-_, _/_, _%_, _≤_, _<_, min}
+use native.Mathlib.Omega.{arith}
+use native.Mathlib.Nat.{min-eq-left, min-eq-right}
+use mathlib.Core.Path.{_≡_, refl, sym, ap, _∙_}
+use mathlib.Core.Bool.{Bool, true, false, cond}
+use mathlib.Core.List.{List, [], _∷_, _++_}
+use lib.ListN.{length, take, drop, set, replicate, length-drop, drop-of-length-le}
+use lib.Seq.{set-out, length-take-le}
+use lib.Dec.{eqb}
+use borrow.Author.Tests.{eq-eqb, ne-eqb}
+use Rattle.word.specs.Word.{num, put}
+use Rattle.word.proofs.Laws.{length-put}
+use Rattle.record.specs.Part.{withPart}
+use Rattle.record.specs.Rows.{rowAt, rows, keep, consIf}
+use Rattle.record.specs.Record.{pageOf, ownerOf, numberOf, committed, lesser, smallest}
+use Rattle.table.proofs.Laws.{rows-more, rows-end, rows-start}
+use Rattle.table.proofs.Moves.{lent-back}
+use Rattle.rules.specs.Lent.{dirtyAt}
+use Rattle.rules.specs.Steps.{lowered}
+
+-- `lesser_of`: none so far, the old one, the new one
+pub lesser-none : (a b : ℕ) → a ≡ 0 → b ≡ lesser a b
+unfolding lesser
+lesser-none a b h = rw (eq-eqb a 0 h)
+
+pub lesser-old : (a b : ℕ) → (a ≡ 0 → ⊥) → a ≤ b → a ≡ lesser a b
+unfolding lesser
+lesser-old a b h k = rw (ne-eqb a 0 h) (sym (min-eq-left k))
+
+pub lesser-new : (a b : ℕ) → (a ≡ 0 → ⊥) → b < a → b ≡ lesser a b
+unfolding lesser
+lesser-new a b h k = let k′ : b ≤ a = omega arith in rw (ne-eqb a 0 h) (sym (min-eq-right k′))
+
+-- bytes past the end are not there to write
+pub put-out : (w : ℕ) (l : List ℕ) (at v : ℕ) → length l ≤ at → put w l at v ≡ l
+unfolding put
+put-out zero l at v h = refl
+put-out (suc w) l at v h =
+    let h′ : length l ≤ at + 1 = omega arith in
+    ap (λ (x : List ℕ). put w x (at + 1) (v / 256)) (set-out l at (v % 256) h) ∙ put-out w l (at + 1) (v / 256) h′
+
+-- `lower`: the number that is there is replaced
+pub lower-there : (l l′ : List ℕ) (at at′ old k v : ℕ) → at ≡ at′ → old ≡ num 4 l at → v ≡ lesser old k → l′ ≡ put 4 l at v → l′ ≡ put 4 l at′ (lesser (num 4 l at′) k)
+lower-there l l′ at at′ old k v h eo ev el =
+    el ∙ ap (λ (x : ℕ). put 4 l at x) (ev ∙ ap (λ (x : ℕ). lesser x k) eo) ∙ ap (λ (x : ℕ). put 4 l x (lesser (num 4 l x) k)) h
+
+-- `lower_row`: an uncommitted row, a committed one
+pub row-stays : (pages i : ℕ) (t ms : List ℕ) → (ownerOf (rowAt 19 t i) ≡ 0 → ⊥) → ms ≡ lowered pages (rows 19 1 t i) ms
+unfolding lowered rows
+row-stays pages i t ms h = rw (ne-eqb (ownerOf (rowAt 19 t i)) 0 h)
+
+pub row-lowers : (pages i p k : ℕ) (t ms ms′ : List ℕ) → ownerOf (rowAt 19 t i) ≡ 0 → p ≡ pageOf (rowAt 19 t i) → k ≡ numberOf (rowAt 19 t i)
+    → ms′ ≡ put 4 ms (dirtyAt pages p) (lesser (num 4 ms (dirtyAt pages p)) k) → ms′ ≡ lowered pages (rows 19 1 t i) ms
+unfolding lowered rows
+row-lowers pages i p k t ms ms′ h ep ek e = rw (eq-eqb (ownerOf (rowAt 19 t i)) 0 h, ← ep, ← ek) e
+
+-- a dirty number that is lowered leaves the length
+length-pick : (b : Bool) (x l : List ℕ) → length x ≡ length l → length (cond b x l) ≡ length l
+length-pick true x l h = h
+length-pick false x l h = refl
+
+pub length-lowered : (pages : ℕ) (rs : List (List ℕ)) (ms : List ℕ) → length (lowered pages rs ms) ≡ length ms
+unfolding lowered
+length-lowered pages [] ms = refl
+length-lowered pages (r ∷ rs) ms =
+    length-lowered pages rs _ ∙ length-pick (committed r) _ ms (length-put 4 ms (dirtyAt pages (pageOf r)) (lesser (num 4 ms (dirtyAt pages (pageOf r))) (numberOf r)))
+
+-- `lower_all`: none, a turn and the end
+pub lowered-none : (pages m : ℕ) (t ms : List ℕ) → lowered pages (rows 19 (m - 0) t 0) ms ≡ lowered pages (rows 19 m t 0) ms
+lowered-none pages m t ms = ap (λ (x : List (List ℕ)). lowered pages x ms) (rows-start 19 m t)
+
+lowered-one : (pages i : ℕ) (t : List ℕ) (rs : List (List ℕ)) (ms : List ℕ) → lowered pages rs (lowered pages (rows 19 1 t i) ms) ≡ lowered pages (rowAt 19 t i ∷ rs) ms
+unfolding lowered rows
+lowered-one pages i t rs ms = refl
+
+pub lowered-turn : (pages m i : ℕ) (t ms ms′ h : List ℕ) → i < m → ms′ ≡ lowered pages (rows 19 1 t i) ms → lowered pages (rows 19 (m - i) t i) ms ≡ h → lowered pages (rows 19 (m - (i + 1)) t (i + 1)) ms′ ≡ h
+lowered-turn pages m i t ms ms′ h p e inv =
+    ap (λ (x : List ℕ). lowered pages (rows 19 (m - (i + 1)) t (i + 1)) x) e
+    ∙ lowered-one pages i t (rows 19 (m - (i + 1)) t (i + 1)) ms
+    ∙ ap (λ (x : List (List ℕ)). lowered pages x ms) (sym (rows-more 19 m t i p))
+    ∙ inv
+
+lowered-nil : (pages : ℕ) (ms : List ℕ) → lowered pages [] ms ≡ ms
+unfolding lowered
+lowered-nil pages ms = refl
+
+pub lowered-done : (pages m i : ℕ) (t ms h : List ℕ) → m ≤ i → lowered pages (rows 19 (m - i) t i) ms ≡ h → ms ≡ h
+lowered-done pages m i t ms h p inv =
+    sym (lowered-nil pages ms) ∙ ap (λ (x : List (List ℕ)). lowered pages x ms) (sym (rows-end 19 m t i p)) ∙ inv
+
+-- `smaller`: an uncommitted row, a committed one
+pub smaller-stays : (a i : ℕ) (t : List ℕ) → (ownerOf (rowAt 19 t i) ≡ 0 → ⊥) → a ≡ smallest a (keep committed (rows 19 1 t i))
+unfolding smallest keep rows
+smaller-stays a i t h = rw (ne-eqb (ownerOf (rowAt 19 t i)) 0 h)
+
+pub smaller-takes : (a k r i : ℕ) (t : List ℕ) → ownerOf (rowAt 19 t i) ≡ 0 → k ≡ numberOf (rowAt 19 t i) → r ≡ lesser a k → r ≡ smallest a (keep committed (rows 19 1 t i))
+unfolding smallest keep rows
+smaller-takes a k r i t h ek e = rw (eq-eqb (ownerOf (rowAt 19 t i)) 0 h, ← ek) e
+
+-- `smallest_committed`: none, a turn and the end
+pub smallest-none : (m : ℕ) (t : List ℕ) → smallest 0 (keep committed (rows 19 (m - 0) t 0)) ≡ smallest 0 (keep committed (rows 19 m t 0))
+smallest-none m t = ap (λ (x : List (List ℕ)). smallest 0 (keep committed x)) (rows-start 19 m t)
+
+smallest-one : (a i : ℕ) (t : List ℕ) (rs : List (List ℕ)) → smallest (smallest a (keep committed (rows 19 1 t i))) (keep committed rs) ≡ smallest a (keep committed (rowAt 19 t i ∷ rs))
+unfolding smallest keep rows
+smallest-one a i t rs = pick (committed (rowAt 19 t i))
+  where
+    pick : (b : Bool) → smallest (smallest a (consIf b (rowAt 19 t i) [])) (keep committed rs) ≡ smallest a (consIf b (rowAt 19 t i) (keep committed rs))
+    pick true = refl
+    pick false = refl
+
+pub smallest-turn : (m i a a′ h : ℕ) (t : List ℕ) → i < m → a′ ≡ smallest a (keep committed (rows 19 1 t i)) → smallest a (keep committed (rows 19 (m - i) t i)) ≡ h → smallest a′ (keep committed (rows 19 (m - (i + 1)) t (i + 1))) ≡ h
+smallest-turn m i a a′ h t p e inv =
+    ap (λ (x : ℕ). smallest x (keep committed (rows 19 (m - (i + 1)) t (i + 1)))) e
+    ∙ smallest-one a i t (rows 19 (m - (i + 1)) t (i + 1))
+    ∙ ap (λ (x : List (List ℕ)). smallest a (keep committed x)) (sym (rows-more 19 m t i p))
+    ∙ inv
+
+smallest-nil : (a : ℕ) → smallest a (keep committed []) ≡ a
+unfolding smallest keep
+smallest-nil a = refl
+
+pub smallest-done : (m i a h : ℕ) (t : List ℕ) → m ≤ i → smallest a (keep committed (rows 19 (m - i) t i)) ≡ h → a ≡ h
+smallest-done m i a h t p inv =
+    sym (smallest-nil a) ∙ ap (λ (x : List (List ℕ)). smallest a (keep committed x)) (sym (rows-end 19 m t i p)) ∙ inv
+
+-- `clear_dirty`: the lent part is the dirty numbers
+zeros-of : (d k : ℕ) (l : List ℕ) → d ≡ k → k ≤ length l → _≡_ {A = List ℕ} (replicate (length (take d l)) 0) (replicate k 0)
+zeros-of d k l h r = rw (h, length-take-le k l r)
+
+pub cleared : (pages a e : ℕ) (l ys : List ℕ) → length l ≡ 12 + 8 * pages → a ≡ 12 + 4 * pages → e ≡ a + 4 * pages → ys ≡ replicate (length (take (e - a) (drop a l))) 0
+    → withPart a (e - a) l ys ≡ withPart (dirtyAt pages 0) (4 * pages) l (replicate (4 * pages) 0)
+cleared pages a e l ys h ha he ey =
+    let r : 4 * pages ≤ length (drop a l) = rw (length-drop a l) (omega arith) in
+    lent-back a e (4 * pages) l ys (replicate (4 * pages) 0) he (ey ∙ zeros-of (e - a) (4 * pages) (drop a l) (omega arith) r)
+    ∙ ap (λ (x : ℕ). withPart x (4 * pages) l (replicate (4 * pages) 0)) d
+  where
+    d : a ≡ dirtyAt pages 0
+    d = omega arith

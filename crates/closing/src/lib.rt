@@ -1,0 +1,112 @@
+// Close: each page's dirty number is its smallest committed online number, K is L, and the log keeps what is from the smallest such number on.
+ghost use mathlib.Core.Path.{_≡_};
+ghost use mathlib.Core.Bool.{cond};
+ghost use Prim.Native.Nat.{ℕ, _+_, _*_, _-_, _≤_, _<_, min};
+ghost use lib.ListN.{length, drop, replicate};
+ghost use lib.Dec.{eqb};
+ghost use Rattle.word.specs.Word.{num, put};
+ghost use Rattle.record.specs.Part.{withPart};
+ghost use Rattle.record.specs.Rows.{rowAt, rows, table, keep};
+ghost use Rattle.record.specs.Record.{pageOf, numberOf, committed, lesser, smallest};
+ghost use Rattle.rules.specs.Lent.{dirtyAt};
+ghost use Rattle.rules.specs.Steps.{lowered};
+
+use number::LogNo;
+use number::PageNo;
+
+// The smaller of two numbers, where 0 is none.
+fn lesser_of(a: u64, b: u64) -> u64
+    ensures { λ r. ⌜ r ≡ lesser a b ⌝ }
+{
+    if a == 0 {
+        return b;
+    }
+    if a <= b {
+        return a;
+    }
+    b
+}
+
+// The dirty number of page p lowered to k; a page past the last has none.
+fn lower(marks: &mut [u8], pages: usize, p: PageNo, k: LogNo)
+    requires { ⌜ length (now marks) ≡ 12 + 8 * pages ⌝ }
+    ensures { λ r. ⌜ now (marks .exit) ≡ put 4 (now (marks .entry)) (dirtyAt pages (p .0)) (lesser (num 4 (now (marks .entry)) (dirtyAt pages (p .0))) (k .0)) ⌝ }
+{
+    let q = p.0;
+    if pages <= q {
+        return;
+    }
+    let at = 12 + 4 * pages + 4 * q;
+    let old = word::load(marks, at, 4);
+    word::store(marks, at, 4, lesser_of(old, k.0));
+}
+
+// Online row i lowers its page's dirty number if it is committed.
+fn lower_row(marks: &mut [u8], pages: usize, online: &[u8], i: usize)
+    requires { ⌜ (length (now marks) ≡ 12 + 8 * pages) × (i * 19 + 19 ≤ length (now online)) ⌝ }
+    ensures { λ r. ⌜ now (marks .exit) ≡ lowered pages (rows 19 1 (now (online .entry)) i) (now (marks .entry)) ⌝ }
+{
+    if record::owner_of(online, i) != 0 {
+        return;
+    }
+    lower(marks, pages, record::page_of(online, 19, i), record::number_of(online, i));
+}
+
+// Each of the first m online rows in turn.
+fn lower_all(marks: &mut [u8], pages: usize, online: &[u8], m: usize)
+    requires { ⌜ (length (now marks) ≡ 12 + 8 * pages) × (m * 19 ≤ length (now online)) ⌝ }
+    ensures { λ r. ⌜ now (marks .exit) ≡ lowered pages (rows 19 m (now (online .entry)) 0) (now (marks .entry)) ⌝ }
+{
+    let mut i = 0;
+    while i < m {
+        lower_row(marks, pages, online, i);
+        i += 1;
+    }
+}
+
+// The smallest number so far, once online row i is seen.
+fn smaller(online: &[u8], i: usize, a: u64) -> u64
+    requires { ⌜ i * 19 + 19 ≤ length (now online) ⌝ }
+    ensures { λ r. ⌜ r ≡ smallest a (keep committed (rows 19 1 (now (online .entry)) i)) ⌝ }
+{
+    if record::owner_of(online, i) != 0 {
+        return a;
+    }
+    let k = record::number_of(online, i);
+    lesser_of(a, k.0)
+}
+
+// The smallest committed online number, 0 if there is none.
+fn smallest_committed(online: &[u8], m: usize) -> u64
+    requires { ⌜ m * 19 ≤ length (now online) ⌝ }
+    ensures { λ r. ⌜ r ≡ smallest 0 (keep committed (rows 19 m (now (online .entry)) 0)) ⌝ }
+{
+    let mut a: u64 = 0;
+    let mut i = 0;
+    while i < m {
+        a = smaller(online, i, a);
+        i += 1;
+    }
+    a
+}
+
+// Zeros, all of it.
+fn wipe(s: &mut [u8])
+    ensures { λ r. ⌜ now (s .exit) ≡ replicate (length (now (s .entry))) 0 ⌝ }
+{
+    let mut i = 0;
+    while i < s.len() {
+        s[i] = 0;
+        i += 1;
+    }
+}
+
+// No page has a dirty number.
+fn clear_dirty(marks: &mut [u8], pages: usize)
+    requires { ⌜ length (now marks) ≡ 12 + 8 * pages ⌝ }
+    ensures { λ r. ⌜ now (marks .exit) ≡ withPart (dirtyAt pages 0) (4 * pages) (now (marks .entry)) (replicate (4 * pages) 0) ⌝ }
+{
+    let a = 12 + 4 * pages;
+    let e = a + 4 * pages;
+    wipe(&mut marks[a..e]);
+}
