@@ -52,13 +52,10 @@ length-rows w zero t i = refl
 length-rows w (suc n) t i = ap suc (length-rows w n t (i + 1))
 
 -- the kept ones of the rows from row i on
-pub keep-rows-yes : (b : List ℕ → Bool) (w m : ℕ) (t : List ℕ) (i : ℕ) → i < m → b (rowAt w t i) ≡ true
-    → keep b (rows w (m - i) t i) ≡ rowAt w t i ∷ keep b (rows w (m - (i + 1)) t (i + 1))
-keep-rows-yes b w m t i h e = ap (λ (l : List (List ℕ)). keep b l) (rows-more w m t i h) ∙ keep-yes b (rowAt w t i) (rows w (m - (i + 1)) t (i + 1)) e
-
-pub keep-rows-no : (b : List ℕ → Bool) (w m : ℕ) (t : List ℕ) (i : ℕ) → i < m → b (rowAt w t i) ≡ false
-    → keep b (rows w (m - i) t i) ≡ keep b (rows w (m - (i + 1)) t (i + 1))
-keep-rows-no b w m t i h e = ap (λ (l : List (List ℕ)). keep b l) (rows-more w m t i h) ∙ keep-no b (rowAt w t i) (rows w (m - (i + 1)) t (i + 1)) e
+pub keep-rows-more : (b : List ℕ → Bool) (w m : ℕ) (t : List ℕ) (i : ℕ) → i < m
+    → keep b (rows w (m - i) t i) ≡ consIf (b (rowAt w t i)) (rowAt w t i) (keep b (rows w (m - (i + 1)) t (i + 1)))
+unfolding keep
+keep-rows-more b w m t i h = ap (λ (l : List (List ℕ)). keep b l) (rows-more w m t i h)
 
 pub keep-rows-end : (b : List ℕ → Bool) (w m : ℕ) (t : List ℕ) (i : ℕ) → m ≤ i → keep b (rows w (m - i) t i) ≡ []
 keep-rows-end b w m t i h = ap (λ (l : List (List ℕ)). keep b l) (rows-end w m t i h) ∙ keep-nil b
@@ -67,14 +64,35 @@ keep-rows-end b w m t i h = ap (λ (l : List (List ℕ)). keep b l) (rows-end w 
 pub count-start : (b : List ℕ → Bool) (w m : ℕ) (t : List ℕ) (n : ℕ) → n + length (keep b (rows w (m - 0) t 0)) ≡ n + length (keep b (rows w m t 0))
 count-start b w m t n = ap (λ (l : List (List ℕ)). n + length (keep b l)) (rows-start w m t)
 
-pub count-yes : (b : List ℕ → Bool) (w m : ℕ) (t : List ℕ) (i n k s : ℕ) → i < m → b (rowAt w t i) ≡ true → k ≡ n + 1
-    → n + length (keep b (rows w (m - i) t i)) ≡ s → k + length (keep b (rows w (m - (i + 1)) t (i + 1))) ≡ s
-count-yes b w m t i n k s h e q p = omega (arith, ap (λ (l : List (List ℕ)). length l) (keep-rows-yes b w m t i h e))
+step-length : (z : Bool) (x : List ℕ) (l : List (List ℕ)) (n : ℕ) → n + length (consIf z x l) ≡ cond z (n + 1) n + length l
+step-length true x l n = omega arith
+step-length false x l n = refl
 
-pub count-no : (b : List ℕ → Bool) (w m : ℕ) (t : List ℕ) (i n k s : ℕ) → i < m → b (rowAt w t i) ≡ false → k ≡ n
+pub count-turn : (b : List ℕ → Bool) (w m : ℕ) (t : List ℕ) (i n k s : ℕ) → i < m → k ≡ cond (b (rowAt w t i)) (n + 1) n
     → n + length (keep b (rows w (m - i) t i)) ≡ s → k + length (keep b (rows w (m - (i + 1)) t (i + 1))) ≡ s
-count-no b w m t i n k s h e q p = omega (arith, ap (λ (l : List (List ℕ)). length l) (keep-rows-no b w m t i h e))
+count-turn b w m t i n k s h q p =
+    let l : List (List ℕ) = keep b (rows w (m - (i + 1)) t (i + 1)) in
+    ap (λ (x : ℕ). x + length l) q ∙ sym (step-length (b (rowAt w t i)) (rowAt w t i) l n)
+    ∙ ap (λ (x : List (List ℕ)). n + length x) (sym (keep-rows-more b w m t i h)) ∙ p
 
 pub count-end : (b : List ℕ → Bool) (w m : ℕ) (t : List ℕ) (i n s : ℕ) → m ≤ i
     → n + length (keep b (rows w (m - i) t i)) ≡ s → n ≡ s
 count-end b w m t i n s h p = omega (arith, ap (λ (l : List (List ℕ)). length l) (keep-rows-end b w m t i h))
+
+-- rows as bytes
+pub joined-cons : (r : List ℕ) (rs : List (List ℕ)) → joined (r ∷ rs) ≡ r ++ joined rs
+unfolding joined
+joined-cons r rs = refl
+
+pub joined-rows : (w n : ℕ) (t : List ℕ) (i : ℕ) → joined (rows w n t i) ≡ part (i * w) (n * w) t
+unfolding rows joined
+joined-rows w zero t i = ap (λ (k : ℕ). take k (drop (i * w) t)) (sym (zero-mul w))
+joined-rows w (suc n) t i =
+    ap (λ (l : List ℕ). rowAt w t i ++ l) (joined-rows w n t (i + 1))
+    ∙ ap (λ (k : ℕ). rowAt w t i ++ part k (n * w) t) (add-mul i 1 w ∙ ap (λ (k : ℕ). i * w + k) (one-mul w))
+    ∙ ap (λ (l : List ℕ). rowAt w t i ++ take (n * w) l) (sym (drop-drop w (i * w) t))
+    ∙ sym (take-add w (n * w) (drop (i * w) t))
+    ∙ ap (λ (k : ℕ). part (i * w) k t) (add-comm w (n * w) ∙ sym (suc-mul n w))
+
+pub joined-all : (w n : ℕ) (t : List ℕ) → joined (rows w n t 0) ≡ take (n * w) t
+joined-all w n t = joined-rows w n t 0 ∙ ap (λ (k : ℕ). part k (n * w) t) (zero-mul w)

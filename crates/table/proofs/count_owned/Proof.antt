@@ -1,6 +1,7 @@
 -- The rows counted so far and those still to be counted are all.
 use Prim.Native.Nat.{ℕ, _+_, _*_, _-_, _≤_, _<_}
-use mathlib.Core.Path.{_≡_, sym, _∙_}
+use mathlib.Core.Path.{_≡_, sym, ap, _∙_}
+use mathlib.Core.Bool.{Bool, cond}
 use mathlib.Core.Logic.{⊎-elim}
 use lib.ListN.{length}
 use borrow.Author.Needs.{needs}
@@ -9,7 +10,7 @@ use native.Mathlib.Omega.{arith}
 use denote.Ref.{now}
 use Rattle.record.specs.Rows.{rows, keep}
 use Rattle.record.specs.Record.{ownedBy}
-use Rattle.table.proofs.Laws.{count-start, count-yes, count-no, count-end}
+use Rattle.table.proofs.Laws.{count-start, count-turn, count-end}
 use Rattle.table.proofs.count_owned.Statement.{statement}
 use Rattle.table.proofs.count_owned.Tie as tie
 
@@ -37,8 +38,8 @@ loop-less c = search needs
 loop-again : tie.Need-loop-again Inv-loop μ-loop
 loop-again c =
     ⊎-elim
-    (λ w. (omega arith, omega arith, count-yes _ _ _ _ _ _ _ _ (c .before .before .loop-test .taken) (eq-eqb _ _ (sym (c .before .owner-of .ensures) ∙ w .0 .taken)) (w .1) (c .before .before .before .loop .inv .2)))
-    (λ w. (omega arith, omega arith, count-no _ _ _ _ _ _ _ _ (c .before .before .loop-test .taken) (ne-eqb _ _ (λ e. w .0 .left (c .before .owner-of .ensures ∙ e))) (w .1) (c .before .before .before .loop .inv .2)))
+    (λ w. (omega arith, omega arith, count-turn _ _ _ _ _ _ _ _ (c .before .before .loop-test .taken) (w .1 ∙ sym (ap (λ (z : Bool). cond z (c .before .before .before .loop .n + 1) (c .before .before .before .loop .n)) (eq-eqb _ _ (sym (c .before .owner-of .ensures) ∙ w .0 .taken)))) (c .before .before .before .loop .inv .2)))
+    (λ w. (omega arith, omega arith, count-turn _ _ _ _ _ _ _ _ (c .before .before .loop-test .taken) (w .1 ∙ sym (ap (λ (z : Bool). cond z (c .before .before .before .loop .n + 1) (c .before .before .before .loop .n)) (ne-eqb _ _ (λ e. w .0 .left (c .before .owner-of .ensures ∙ e))))) (c .before .before .before .loop .inv .2)))
     (c .if1 .came)
 
 returns : tie.Need-returns Inv-loop μ-loop
