@@ -7,8 +7,8 @@ use mathlib.Core.Bool.{Bool, true, false, cond}
 use mathlib.Core.List.{List, [], _∷_, _++_}
 use lib.ListN.{length, take, drop, set, replicate, length-drop, drop-of-length-le}
 use lib.Seq.{set-out, length-take-le}
-use lib.Dec.{eqb}
-use borrow.Author.Tests.{eq-eqb, ne-eqb}
+use lib.Dec.{eqb, leb}
+use borrow.Author.Tests.{eq-eqb, ne-eqb, leb-true, leb-false}
 use Rattle.word.specs.Word.{num, put}
 use Rattle.word.proofs.Laws.{length-put}
 use Rattle.record.specs.Part.{withPart}
@@ -138,3 +138,58 @@ cleared pages a e l ys h ha he ey =
   where
     d : a ≡ dirtyAt pages 0
     d = omega arith
+
+-- `lower_anew`: cleared, then lowered
+pub lowered-anew : (pages : ℕ) (rs : List (List ℕ)) (l a b : List ℕ) → a ≡ withPart (dirtyAt pages 0) (4 * pages) l (replicate (4 * pages) 0) → b ≡ lowered pages rs a
+    → b ≡ lowered pages rs (withPart (dirtyAt pages 0) (4 * pages) l (replicate (4 * pages) 0))
+lowered-anew pages rs l a b ea eb = eb ∙ ap (λ (x : List ℕ). lowered pages rs x) ea
+
+-- `close_marks`: by the numbers that were read
+pub marks-closed : (fixed marks a b c : List ℕ) (rs : List (List ℕ)) (pages last n d : ℕ) → pages ≡ num 4 fixed 4 → last ≡ num 4 marks 0 → n ≡ num 4 marks 8
+    → a ≡ lowered pages rs (withPart (dirtyAt pages 0) (4 * pages) marks (replicate (4 * pages) 0)) → b ≡ put 4 a 4 last → c ≡ put 4 b 8 (n - d)
+    → c ≡ put 4 (put 4 (lowered (num 4 fixed 4) rs (withPart (dirtyAt (num 4 fixed 4) 0) (4 * num 4 fixed 4) marks (replicate (4 * num 4 fixed 4) 0))) 4 (num 4 marks 0)) 8 (num 4 marks 8 - d)
+marks-closed fixed marks a b c rs pages last n d ep el en ea eb ec =
+    rw (← ep, ← el, ← en) (ec ∙ ap (λ (x : List ℕ). put 4 x 8 (n - d)) (eb ∙ ap (λ (x : List ℕ). put 4 x 4 last) ea))
+
+-- `below`: no number, and some number
+pub below-all : (n x y : ℕ) → x ≡ 0 → n ≡ min n (cond (eqb x 0) n y)
+below-all n x y h = let k : n ≤ n = omega arith in rw (eq-eqb x 0 h) (sym (min-eq-left k))
+
+below-some : (n x y r : ℕ) → (x ≡ 0 → ⊥) → r ≡ min n y → r ≡ min n (cond (eqb x 0) n y)
+below-some n x y r h e = rw (ne-eqb x 0 h) e
+
+pub below-none : (n x f : ℕ) → (x ≡ 0 → ⊥) → x ≤ f → 0 ≡ min n (cond (eqb x 0) n (x - f))
+below-none n x f h k =
+    let z : x - f ≡ 0 = omega arith in
+    let z′ : 0 ≤ n = omega arith in
+    below-some n x (x - f) 0 h (rw z (sym (min-eq-right z′)))
+
+pub below-most : (n x f : ℕ) → (x ≡ 0 → ⊥) → n ≤ x - f → n ≡ min n (cond (eqb x 0) n (x - f))
+below-most n x f h k = below-some n x (x - f) n h (sym (min-eq-left k))
+
+pub below-part : (n x f : ℕ) → (x ≡ 0 → ⊥) → x - f < n → x - f ≡ min n (cond (eqb x 0) n (x - f))
+below-part n x f h k = let k′ : x - f ≤ n = omega arith in below-some n x (x - f) (x - f) h (sym (min-eq-right k′))
+
+-- `dropped`: by the numbers that were read
+pub dropped-read : (marks : List ℕ) (n last x r : ℕ) → n ≡ num 4 marks 8 → last ≡ num 4 marks 0 → r ≡ min n (cond (eqb x 0) n (x - (last - n + 1)))
+    → r ≡ min (num 4 marks 8) (cond (eqb x 0) (num 4 marks 8) (x - (num 4 marks 0 - num 4 marks 8 + 1)))
+dropped-read marks n last x r en el e = rw (← en, ← el) e
+
+-- what is left of n rows does not see that no more than n are dropped
+pub sub-least : (n d : ℕ) → n - min n d ≡ n - d
+sub-least n d = go (leb n d) refl
+  where
+    go : (b : Bool) → leb n d ≡ b → n - min n d ≡ n - d
+    go true e = let k : n ≤ d = leb-true n d e in rw (min-eq-left k) (omega arith)
+    go false e = let k : d ≤ n = omega (arith, leb-false n d e) in rw (min-eq-right k)
+
+pub drop-least : {A : Type 0} (n d : ℕ) (l : List A) → length l ≡ n → drop (min n d) l ≡ drop d l
+drop-least n d l h = go (leb n d) refl
+  where
+    go : (b : Bool) → leb n d ≡ b → drop (min n d) l ≡ drop d l
+    go true e =
+        let k : n ≤ d = leb-true n d e in
+        let k₁ : length l ≤ n = omega arith in
+        let k₂ : length l ≤ d = omega arith in
+        rw (min-eq-left k) (drop-of-length-le l k₁ ∙ sym (drop-of-length-le l k₂))
+    go false e = let k : d ≤ n = omega (arith, leb-false n d e) in rw (min-eq-right k)

@@ -110,3 +110,53 @@ fn clear_dirty(marks: &mut [u8], pages: usize)
     let e = a + 4 * pages;
     wipe(&mut marks[a..e]);
 }
+
+// The dirty numbers made anew from the first m online rows.
+fn lower_anew(marks: &mut [u8], pages: usize, online: &[u8], m: usize)
+    requires { ⌜ (length (now marks) ≡ 12 + 8 * pages) × (m * 19 ≤ length (now online)) ⌝ }
+    ensures { λ r. ⌜ now (marks .exit) ≡ lowered pages (rows 19 m (now (online .entry)) 0) (withPart (dirtyAt pages 0) (4 * pages) (now (marks .entry)) (replicate (4 * pages) 0)) ⌝ }
+{
+    clear_dirty(marks, pages);
+    lower_all(marks, pages, online, m);
+}
+
+// The dirty numbers made anew, K as L, and n less by d.
+fn close_marks(fixed: &[u8], marks: &mut [u8], online: &[u8], m: usize, d: u64)
+    requires { ⌜ (length (now fixed) ≡ 20) × (length (now marks) ≡ 12 + 8 * num 4 (now fixed) 4) × (m * 19 ≤ length (now online)) × (d ≤ num 4 (now marks) 8) ⌝ }
+    ensures { λ r. ⌜ now (marks .exit) ≡ put 4 (put 4 (lowered (num 4 (now (fixed .entry)) 4) (rows 19 m (now (online .entry)) 0) (withPart (dirtyAt (num 4 (now (fixed .entry)) 4) 0) (4 * num 4 (now (fixed .entry)) 4) (now (marks .entry)) (replicate (4 * num 4 (now (fixed .entry)) 4) 0))) 4 (num 4 (now (marks .entry)) 0)) 8 (num 4 (now (marks .entry)) 8 - d) ⌝ }
+{
+    let pages = word::load(fixed, 4, 4) as usize;
+    let last = word::load(marks, 0, 4);
+    let n = word::load(marks, 8, 4);
+    lower_anew(marks, pages, online, m);
+    word::store(marks, 4, 4, last);
+    word::store(marks, 8, 4, n - d);
+}
+
+// Of n log records up to the number `last`, those below the number x, all if x is 0, and never more than there are.
+fn below(n: u64, last: u64, x: u64) -> u64
+    requires { ⌜ (n ≤ last) × (last < 4294967296) ⌝ }
+    ensures { λ r. ⌜ r ≡ min n (cond (eqb x 0) n (x - (last - n + 1))) ⌝ }
+{
+    if x == 0 {
+        return n;
+    }
+    let first = last - n + 1;
+    if x <= first {
+        return 0;
+    }
+    if n <= x - first {
+        return n;
+    }
+    x - first
+}
+
+// How many log records are dropped where the smallest dirty number is x.
+fn dropped(marks: &[u8], x: u64) -> u64
+    requires { ⌜ (12 ≤ length (now marks)) × (num 4 (now marks) 8 ≤ num 4 (now marks) 0) ⌝ }
+    ensures { λ r. ⌜ r ≡ min (num 4 (now (marks .entry)) 8) (cond (eqb x 0) (num 4 (now (marks .entry)) 8) (x - (num 4 (now (marks .entry)) 0 - num 4 (now (marks .entry)) 8 + 1))) ⌝ }
+{
+    let last = word::load(marks, 0, 4);
+    let n = word::load(marks, 8, 4);
+    below(n, last, x)
+}
