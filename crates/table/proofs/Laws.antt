@@ -96,3 +96,17 @@ joined-rows w (suc n) t i =
 
 pub joined-all : (w n : ℕ) (t : List ℕ) → joined (rows w n t 0) ≡ take (n * w) t
 joined-all w n t = joined-rows w n t 0 ∙ ap (λ (k : ℕ). part k (n * w) t) (zero-mul w)
+
+-- rows without the first of them
+pub drop-rows : (w n d : ℕ) (t : List ℕ) (i : ℕ) → d ≤ n → drop d (rows w n t i) ≡ rows w (n - d) t (i + d)
+unfolding rows
+drop-rows w n zero t i h =
+    let e : n - 0 ≡ n = omega arith in
+    let f : i + 0 ≡ i = omega arith in
+    rw (e, f)
+drop-rows w zero (suc d) t i h = absurd (omega arith)
+drop-rows w (suc n) (suc d) t i h =
+    let e : suc n - suc d ≡ n - d = omega arith in
+    let f : i + suc d ≡ i + 1 + d = omega arith in
+    let g : d ≤ n = omega arith in
+    rw (e, f) (drop-rows w n d t (i + 1) g)

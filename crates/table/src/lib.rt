@@ -12,7 +12,7 @@ ghost use lib.ListN.{length, take, drop, set, replicate};
 ghost use Rattle.word.specs.Word.{put};
 ghost use Rattle.record.specs.Part.{withPart};
 ghost use Rattle.record.specs.Rows.{rowAt, rows, joined, table, keep};
-ghost use Rattle.record.specs.Record.{ownedBy, bodyOf, rowOf, entered, numbered, numberRows, onPage, committedOn, smallest, greatest, lesser};
+ghost use Rattle.record.specs.Record.{ownedBy, bodyOf, rowOf, entered, numbered, numberRows, onPage, committedOn, smallest, greatest, lesser, gone};
 ghost use Rattle.table.specs.Stays.{stays};
 
 // How many of the first m rows are the owner's.
@@ -120,4 +120,93 @@ pub fn number_rows(t: &mut [u8], m: usize, owner: u8, next: u64) -> u64
         j += 1;
     }
     k
+}
+
+// The record of row j of t, if it is the owner's, in row k of the log; the next row of the log.
+fn log_row(log: &mut [u8], k: usize, t: &[u8], j: usize, owner: u8) -> usize
+    requires { ⌜ (j * 19 + 19 ≤ length (now t)) × (ownedBy owner (rowAt 19 (now t) j) ≡ true → k * 14 + 14 ≤ length (now log)) ⌝ }
+    ensures { λ r. ⌜ (now (log .exit) ≡ cond (ownedBy owner (rowAt 19 (now (t .entry)) j)) (withPart (k * 14) 14 (now (log .entry)) (bodyOf (rowAt 19 (now (t .entry)) j))) (now (log .entry))) × (r ≡ cond (ownedBy owner (rowAt 19 (now (t .entry)) j)) (k + 1) k) ⌝ }
+{
+    if record::owner_of(t, j) != owner {
+        return k;
+    }
+    let a = k * 14;
+    let e = a + 14;
+    let f = j * 19;
+    let g = f + 14;
+    bytes::copy(&mut log[a..e], &t[f..g]);
+    k + 1
+}
+
+// The records of the owner's rows of the first m after the n rows of the log, in table order; how many rows the log then has.
+pub fn append_log(log: &mut [u8], n: usize, t: &[u8], m: usize, owner: u8) -> usize
+    requires { ⌜ (m * 19 ≤ length (now t)) × (n * 14 + length (keep (ownedBy owner) (rows 19 m (now t) 0)) * 14 ≤ length (now log)) ⌝ }
+    ensures { λ r. ⌜ (now (log .exit) ≡ take (n * 14) (now (log .entry)) ++ (joined (map bodyOf (keep (ownedBy owner) (rows 19 m (now (t .entry)) 0))) ++ drop ((n + length (keep (ownedBy owner) (rows 19 m (now (t .entry)) 0))) * 14) (now (log .entry)))) × (r ≡ n + length (keep (ownedBy owner) (rows 19 m (now (t .entry)) 0))) ⌝ }
+{
+    let mut k = n;
+    let mut j = 0;
+    while j < m {
+        k = log_row(log, k, t, j, owner);
+        j += 1;
+    }
+    k
+}
+
+// Whether row j is one to delete.
+fn is_gone(t: &[u8], j: usize, whole: bool, owner: u8, p: PageNo) -> bool
+    requires { ⌜ j * 19 + 19 ≤ length (now t) ⌝ }
+    ensures { λ r. ⌜ r ≡ gone whole owner (p .0) (rowAt 19 (now (t .entry)) j) ⌝ }
+{
+    let owned = record::owner_of(t, j) == owner;
+    if whole {
+        return owned;
+    }
+    let q = record::page_of(t, 19, j);
+    (q.0 == p.0) & owned
+}
+
+// Row j, if it stays, moved down to row k; the next row to move to.
+fn keep_row(t: &mut [u8], k: usize, j: usize, whole: bool, owner: u8, p: PageNo) -> usize
+    requires { ⌜ (k ≤ j) × (j * 19 + 19 ≤ length (now t)) ⌝ }
+    ensures { λ r. ⌜ (now (t .exit) ≡ cond (stays whole owner (p .0) (rowAt 19 (now (t .entry)) j)) (withPart (k * 19) 19 (now (t .entry)) (rowAt 19 (now (t .entry)) j)) (now (t .entry))) × (r ≡ cond (stays whole owner (p .0) (rowAt 19 (now (t .entry)) j)) (k + 1) k) ⌝ }
+{
+    if is_gone(t, j, whole, owner, p) {
+        return k;
+    }
+    bytes::slide(t, j * 19, k * 19, 19);
+    k + 1
+}
+
+// The rows of the first m that stay, moved to the front; how many. What stands after them is left over.
+fn squeeze(t: &mut [u8], m: usize, whole: bool, owner: u8, p: PageNo) -> usize
+    requires { ⌜ m * 19 ≤ length (now t) ⌝ }
+    ensures { λ r. ⌜ (take (r * 19) (now (t .exit)) ≡ joined (keep (stays whole owner (p .0)) (rows 19 m (now (t .entry)) 0))) × (r ≡ length (keep (stays whole owner (p .0)) (rows 19 m (now (t .entry)) 0))) × (r ≤ m) ⌝ }
+{
+    let mut k = 0;
+    let mut j = 0;
+    while j < m {
+        k = keep_row(t, k, j, whole, owner, p);
+        j += 1;
+    }
+    k
+}
+
+// The owner's rows of the first m deleted, all or those of one page; how many rows are left. The rest of the table is zero.
+pub fn delete(t: &mut [u8], m: usize, size: usize, whole: bool, owner: u8, p: PageNo) -> usize
+    requires { ⌜ (length (now t) ≡ size * 19) × (m ≤ size) ⌝ }
+    ensures { λ r. ⌜ (now (t .exit) ≡ table 19 size (keep (stays whole owner (p .0)) (rows 19 m (now (t .entry)) 0))) × (r ≡ length (keep (stays whole owner (p .0)) (rows 19 m (now (t .entry)) 0))) ⌝ }
+{
+    let k = squeeze(t, m, whole, owner, p);
+    bytes::clear(t, k * 19);
+    k
+}
+
+// The first d of the n rows of the log dropped. The rest of the log is zero.
+pub fn shift(t: &mut [u8], n: usize, size: usize, d: usize)
+    requires { ⌜ (length (now t) ≡ size * 14) × (n ≤ size) × (d ≤ n) ⌝ }
+    ensures { λ r. ⌜ now (t .exit) ≡ table 14 size (drop d (rows 14 n (now (t .entry)) 0)) ⌝ }
+{
+    let k = (n - d) * 14;
+    bytes::slide(t, d * 14, 0, k);
+    bytes::clear(t, k);
 }
