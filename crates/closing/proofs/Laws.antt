@@ -12,12 +12,12 @@ use borrow.Author.Tests.{eq-eqb, ne-eqb, leb-true, leb-false}
 use Rattle.word.specs.Word.{num, put}
 use Rattle.word.proofs.Laws.{length-put}
 use Rattle.record.specs.Part.{withPart}
-use Rattle.record.specs.Rows.{rowAt, rows, keep, consIf}
+use Rattle.record.specs.Rows.{rowAt, rows, table, keep, consIf}
 use Rattle.record.specs.Record.{pageOf, ownerOf, numberOf, committed, lesser, smallest}
-use Rattle.table.proofs.Laws.{rows-more, rows-end, rows-start}
+use Rattle.table.proofs.Laws.{rows-more, rows-end, rows-start, length-rows}
 use Rattle.table.proofs.Moves.{lent-back}
-use Rattle.rules.specs.Lent.{dirtyAt}
-use Rattle.rules.specs.Steps.{lowered}
+use Rattle.rules.specs.Lent.{Lent, lentOf, dirtyAt}
+use Rattle.rules.specs.Steps.{lowered, droppedBy, closed}
 
 -- `lesser_of`: none so far, the old one, the new one
 pub lesser-none : (a b : ℕ) → a ≡ 0 → b ≡ lesser a b
@@ -193,3 +193,44 @@ drop-least n d l h = go (leb n d) refl
         let k₂ : length l ≤ d = omega arith in
         rw (min-eq-left k) (drop-of-length-le l k₁ ∙ sym (drop-of-length-le l k₂))
     go false e = let k : d ≤ n = omega (arith, leb-false n d e) in rw (min-eq-right k)
+
+-- `close_log`: by the numbers that were read
+pub log-closed : (fixed marks log log′ : List ℕ) (span n d : ℕ) → span ≡ num 4 fixed 16 → n ≡ num 4 marks 8 → log′ ≡ table 14 span (drop d (rows 14 n log 0))
+    → log′ ≡ table 14 (num 4 fixed 16) (drop d (rows 14 (num 4 marks 8) log 0))
+log-closed fixed marks log log′ span n d es en e = rw (← es, ← en) e
+
+-- `close`: the log and the marks are those of the step
+module _ (fixed marks log stored tables online pool : List ℕ) where
+  abbrev lent : Lent
+  lent = lentOf fixed marks log stored tables online pool
+
+  abbrev anew : ℕ → List ℕ
+  anew m = lowered (num 4 fixed 4) (rows 19 m online 0) (withPart (dirtyAt (num 4 fixed 4) 0) (4 * num 4 fixed 4) marks (replicate (4 * num 4 fixed 4) 0))
+
+  drops : (m x d : ℕ) → m ≡ num 2 tables 0 → x ≡ smallest 0 (keep committed (rows 19 m online 0))
+      → d ≡ min (num 4 marks 8) (cond (eqb x 0) (num 4 marks 8) (x - (num 4 marks 0 - num 4 marks 8 + 1))) → d ≡ min (num 4 marks 8) (droppedBy lent)
+  unfolding droppedBy
+  drops m x d em ex ed =
+      let e : x ≡ smallest 0 (keep committed (rows 19 (num 2 tables 0) online 0)) = ex ∙ ap (λ (k : ℕ). smallest 0 (keep committed (rows 19 k online 0))) em in
+      ed ∙ ap (λ (k : ℕ). min (num 4 marks 8) (cond (eqb k 0) (num 4 marks 8) (k - (num 4 marks 0 - num 4 marks 8 + 1)))) e
+
+  pub lent-closed : (marks′ log′ : List ℕ) (m x d : ℕ) → m ≡ num 2 tables 0 → x ≡ smallest 0 (keep committed (rows 19 m online 0))
+      → d ≡ min (num 4 marks 8) (cond (eqb x 0) (num 4 marks 8) (x - (num 4 marks 0 - num 4 marks 8 + 1)))
+      → log′ ≡ table 14 (num 4 fixed 16) (drop d (rows 14 (num 4 marks 8) log 0))
+      → marks′ ≡ put 4 (put 4 (anew m) 4 (num 4 marks 0)) 8 (num 4 marks 8 - d)
+      → lentOf fixed marks′ log′ stored tables online pool ≡ closed lent .lent
+  unfolding closed
+  lent-closed marks′ log′ m x d em ex ed el ek = λ i. lentOf fixed (kept i) (logged i) stored tables online pool
+    where
+      e : d ≡ min (num 4 marks 8) (droppedBy lent)
+      e = drops m x d em ex ed
+
+      kept : marks′ ≡ put 4 (put 4 (anew (num 2 tables 0)) 4 (num 4 marks 0)) 8 (num 4 marks 8 - droppedBy lent)
+      kept =
+          ek ∙ ap (λ (k : ℕ). put 4 (put 4 (anew k) 4 (num 4 marks 0)) 8 (num 4 marks 8 - d)) em
+          ∙ ap (λ (k : ℕ). put 4 (put 4 (anew (num 2 tables 0)) 4 (num 4 marks 0)) 8 k) (ap (λ (k : ℕ). num 4 marks 8 - k) e ∙ sub-least (num 4 marks 8) (droppedBy lent))
+
+      logged : log′ ≡ table 14 (num 4 fixed 16) (drop (droppedBy lent) (rows 14 (num 4 marks 8) log 0))
+      logged =
+          el ∙ ap (λ (k : List (List ℕ)). table 14 (num 4 fixed 16) k)
+          (ap (λ (k : ℕ). drop k (rows 14 (num 4 marks 8) log 0)) e ∙ drop-least (num 4 marks 8) (droppedBy lent) (rows 14 (num 4 marks 8) log 0) (length-rows 14 (num 4 marks 8) log 0))

@@ -8,8 +8,9 @@ ghost use Rattle.word.specs.Word.{num, put};
 ghost use Rattle.record.specs.Part.{withPart};
 ghost use Rattle.record.specs.Rows.{rowAt, rows, table, keep};
 ghost use Rattle.record.specs.Record.{pageOf, numberOf, committed, lesser, smallest};
-ghost use Rattle.rules.specs.Lent.{dirtyAt};
-ghost use Rattle.rules.specs.Steps.{lowered};
+ghost use Rattle.rules.specs.Lent.{lentOf, lastOf, loggedOf, dirtyAt};
+ghost use Rattle.rules.specs.Shape.{Shaped};
+ghost use Rattle.rules.specs.Steps.{lowered, closed};
 
 use number::LogNo;
 use number::PageNo;
@@ -159,4 +160,26 @@ fn dropped(marks: &[u8], x: u64) -> u64
     let last = word::load(marks, 0, 4);
     let n = word::load(marks, 8, 4);
     below(n, last, x)
+}
+
+// The first d log records dropped.
+fn close_log(fixed: &[u8], marks: &[u8], log: &mut [u8], d: u64)
+    requires { ⌜ (length (now fixed) ≡ 20) × (12 ≤ length (now marks)) × (length (now log) ≡ 14 * num 4 (now fixed) 16) × (num 4 (now marks) 8 ≤ num 4 (now fixed) 16) × (d ≤ num 4 (now marks) 8) ⌝ }
+    ensures { λ r. ⌜ now (log .exit) ≡ table 14 (num 4 (now (fixed .entry)) 16) (drop d (rows 14 (num 4 (now (marks .entry)) 8) (now (log .entry)) 0)) ⌝ }
+{
+    let span = word::load(fixed, 16, 4) as usize;
+    let n = word::load(marks, 8, 4) as usize;
+    table::shift(log, n, span, d as usize);
+}
+
+// Close, on all the lent areas.
+pub fn close(fixed: &[u8], marks: &mut [u8], log: &mut [u8], stored: &[u8], tables: &[u8], online: &[u8], pool: &[u8])
+    requires { ⌜ Shaped (lentOf (now fixed) (now marks) (now log) (now stored) (now tables) (now online) (now pool)) × (loggedOf (lentOf (now fixed) (now marks) (now log) (now stored) (now tables) (now online) (now pool)) ≤ lastOf (lentOf (now fixed) (now marks) (now log) (now stored) (now tables) (now online) (now pool))) ⌝ }
+    ensures { λ r. ⌜ lentOf (now (fixed .entry)) (now (marks .exit)) (now (log .exit)) (now (stored .entry)) (now (tables .entry)) (now (online .entry)) (now (pool .entry)) ≡ closed (lentOf (now (fixed .entry)) (now (marks .entry)) (now (log .entry)) (now (stored .entry)) (now (tables .entry)) (now (online .entry)) (now (pool .entry))) .lent ⌝ }
+{
+    let m = word::load(tables, 0, 2) as usize;
+    let x = smallest_committed(online, m);
+    let d = dropped(marks, x);
+    close_log(fixed, marks, log, d);
+    close_marks(fixed, marks, online, m, d);
 }
