@@ -1,17 +1,16 @@
 // Close: each page's dirty number is its smallest committed online number, K is L, and the log keeps what is from the smallest such number on.
 ghost use mathlib.Core.Path.{_≡_};
 ghost use mathlib.Core.Bool.{cond};
-ghost use Prim.Native.Nat.{ℕ, _+_, _*_, _-_, _≤_, _<_, min};
+ghost use Prim.Native.Nat.{_+_, _*_, _-_, _≤_, _<_, min};
 ghost use lib.ListN.{length, drop, replicate};
 ghost use lib.Dec.{eqb};
 ghost use Rattle.word.specs.Word.{num, put};
 ghost use Rattle.record.specs.Part.{withPart};
-ghost use Rattle.record.specs.Rows.{rowAt, rows, table, keep};
-ghost use Rattle.record.specs.Record.{pageOf, numberOf, committed, lesser, smallest};
+ghost use Rattle.record.specs.Rows.{rows, table, keep};
+ghost use Rattle.record.specs.Record.{committed, lesser, smallest};
 ghost use Rattle.rules.specs.Lent.{lentOf, lastOf, loggedOf, dirtyAt};
 ghost use Rattle.rules.specs.Shape.{Shaped};
 ghost use Rattle.rules.specs.Steps.{lowered, closed};
-
 use number::LogNo;
 use number::PageNo;
 
@@ -50,7 +49,12 @@ fn lower_row(marks: &mut [u8], pages: usize, online: &[u8], i: usize)
     if record::owner_of(online, i) != 0 {
         return;
     }
-    lower(marks, pages, record::page_of(online, 19, i), record::number_of(online, i));
+    lower(
+        marks,
+        pages,
+        record::page_of(online, 19, i),
+        record::number_of(online, i),
+    );
 }
 
 // Each of the first m online rows in turn.
@@ -173,7 +177,15 @@ fn close_log(fixed: &[u8], marks: &[u8], log: &mut [u8], d: u64)
 }
 
 // Close, on all the lent areas.
-pub fn close(fixed: &[u8], marks: &mut [u8], log: &mut [u8], stored: &[u8], tables: &[u8], online: &[u8], pool: &[u8])
+pub fn close(
+    fixed: &[u8],
+    marks: &mut [u8],
+    log: &mut [u8],
+    stored: &[u8],
+    tables: &[u8],
+    online: &[u8],
+    pool: &[u8],
+)
     requires { ⌜ Shaped (lentOf (now fixed) (now marks) (now log) (now stored) (now tables) (now online) (now pool)) × (loggedOf (lentOf (now fixed) (now marks) (now log) (now stored) (now tables) (now online) (now pool)) ≤ lastOf (lentOf (now fixed) (now marks) (now log) (now stored) (now tables) (now online) (now pool))) ⌝ }
     ensures { λ r. ⌜ lentOf (now (fixed .entry)) (now (marks .exit)) (now (log .exit)) (now (stored .entry)) (now (tables .entry)) (now (online .entry)) (now (pool .entry)) ≡ closed (lentOf (now (fixed .entry)) (now (marks .entry)) (now (log .entry)) (now (stored .entry)) (now (tables .entry)) (now (online .entry)) (now (pool .entry))) .lent ⌝ }
 {

@@ -1,5 +1,5 @@
 -- Laws of zero bytes behind a table's rows, of rows added to the log and numbered online, and of the whole commit.
-use Prim.Native.Nat.{ℕ, zero, suc, _+_, _*_, _-_, _≤_, _<_}
+use Prim.Native.Nat.{ℕ, zero, suc, _+_, _*_, _-_, _≤_}
 use native.Mathlib.Omega.{arith}
 use native.Mathlib.Nat.{add-mul, mul-sub, mul-comm}
 use mathlib.Core.Path.{_≡_, refl, sym, ap, _∙_}
@@ -11,7 +11,7 @@ use lib.Dec.{eqb}
 use borrow.Author.Tests.{eqb-true}
 use Rattle.word.specs.Word.{num, put}
 use Rattle.record.specs.Rows.{rows, joined, table, keep}
-use Rattle.record.specs.Record.{bodyOf, ownedBy, numbered, numberRows}
+use Rattle.record.specs.Record.{bodyOf, ownedBy, numberRows}
 use Rattle.table.proofs.Laws.{joined-all, length-rows, keep-length}
 use Rattle.rules.specs.Sound.{every, zeros}
 use Rattle.rules.specs.Lent.{Lent, lentOf, liveAt}

@@ -2,7 +2,7 @@
 ghost use mathlib.Core.Path.{_≡_};
 ghost use mathlib.Core.Bool.{true, cond};
 ghost use mathlib.Core.List.{_++_, map};
-ghost use Prim.Native.Nat.{ℕ, _+_, _*_, _≤_};
+ghost use Prim.Native.Nat.{_+_, _*_, _≤_};
 ghost use lib.ListN.{length, take, drop, set};
 ghost use lib.Dec.{eqb};
 ghost use Rattle.word.specs.Word.{num, put};
@@ -56,7 +56,16 @@ fn writes(k: usize) -> u32
 }
 
 // Commit, on all the lent areas; how many log writes.
-pub fn commit(fixed: &[u8], marks: &mut [u8], log: &mut [u8], stored: &[u8], tables: &mut [u8], online: &mut [u8], pool: &[u8], owner: u8) -> u32
+pub fn commit(
+    fixed: &[u8],
+    marks: &mut [u8],
+    log: &mut [u8],
+    stored: &[u8],
+    tables: &mut [u8],
+    online: &mut [u8],
+    pool: &[u8],
+    owner: u8,
+) -> u32
     requires { ⌜ Shaped (lentOf (now fixed) (now marks) (now log) (now stored) (now tables) (now online) (now pool)) × (1 ≤ owner) × (owner ≤ 32) × (loggedOf (lentOf (now fixed) (now marks) (now log) (now stored) (now tables) (now online) (now pool)) + length (owned (lentOf (now fixed) (now marks) (now log) (now stored) (now tables) (now online) (now pool)) owner) ≤ spanOf (lentOf (now fixed) (now marks) (now log) (now stored) (now tables) (now online) (now pool))) × (lastOf (lentOf (now fixed) (now marks) (now log) (now stored) (now tables) (now online) (now pool)) + length (owned (lentOf (now fixed) (now marks) (now log) (now stored) (now tables) (now online) (now pool)) owner) ≤ 4294967295) × (zeros (drop (countOf (lentOf (now fixed) (now marks) (now log) (now stored) (now tables) (now online) (now pool)) * 19) (now online)) ≡ true) × (zeros (drop (loggedOf (lentOf (now fixed) (now marks) (now log) (now stored) (now tables) (now online) (now pool)) * 14) (now log)) ≡ true) ⌝ }
     ensures { λ r. ⌜ (r ≡ committing (lentOf (now (fixed .entry)) (now (marks .entry)) (now (log .entry)) (now (stored .entry)) (now (tables .entry)) (now (online .entry)) (now (pool .entry))) owner .logs) × (lentOf (now (fixed .entry)) (now (marks .exit)) (now (log .exit)) (now (stored .entry)) (now (tables .exit)) (now (online .exit)) (now (pool .entry)) ≡ committing (lentOf (now (fixed .entry)) (now (marks .entry)) (now (log .entry)) (now (stored .entry)) (now (tables .entry)) (now (online .entry)) (now (pool .entry))) owner .lent) ⌝ }
 {

@@ -1,6 +1,4 @@
 -- `closing::below` meets its contract: each way out cites the law of its tests.
-use native.Mathlib.Omega.{arith}
-use Prim.Native.Nat.{_+_, _-_}
 use Rattle.closing.proofs.Laws.{below-all, below-none, below-most, below-part}
 use borrow.Author.Needs.{needs}
 use Rattle.closing.proofs.below.Statement.{statement}

@@ -1,6 +1,5 @@
 -- `closing::clear_dirty` meets its contract: the lent part is the dirty numbers.
 use denote.Ref.{now}
-use native.Mathlib.Omega.{arith}
 use mathlib.Core.Path.{refl}
 use Rattle.closing.proofs.Laws.{cleared}
 use borrow.Author.Needs.{needs}

@@ -1,5 +1,4 @@
 -- `closing::lower` meets its contract: past the last page nothing is written, else the number there is replaced.
-use Prim.Native.Nat.{_+_, _*_}
 use native.Mathlib.Omega.{arith}
 use denote.Ref.{now}
 use mathlib.Core.Path.{sym}

@@ -1,8 +1,6 @@
 -- `closing::lower_row` meets its contract: the test picks the side, and the fields are the row's.
 use denote.Ref.{now}
-use mathlib.Core.Path.{_≡_, sym, _∙_}
-use Rattle.record.specs.Rows.{rowAt}
-use Rattle.record.specs.Record.{ownerOf}
+use mathlib.Core.Path.{sym, _∙_}
 use Rattle.closing.proofs.Laws.{row-stays, row-lowers}
 use borrow.Author.Needs.{needs}
 use Rattle.closing.proofs.lower_row.Statement.{statement}

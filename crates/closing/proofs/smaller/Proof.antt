@@ -1,6 +1,6 @@
 -- `closing::smaller` meets its contract: the test picks the side.
 use denote.Ref.{now}
-use mathlib.Core.Path.{_≡_, sym, _∙_}
+use mathlib.Core.Path.{sym, _∙_}
 use Rattle.closing.proofs.Laws.{smaller-stays, smaller-takes}
 use borrow.Author.Needs.{needs}
 use Rattle.closing.proofs.smaller.Statement.{statement}

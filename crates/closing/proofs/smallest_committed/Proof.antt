@@ -1,7 +1,7 @@
 -- `closing::smallest_committed` meets its contract: a, with the rows still to come, makes what all rows make of 0.
 use Prim.Native.Nat.{_-_, _≤_}
 use denote.Ref.{now}
-use mathlib.Core.Path.{_≡_, refl}
+use mathlib.Core.Path.{_≡_}
 use Rattle.record.specs.Rows.{rows, keep}
 use Rattle.record.specs.Record.{committed, smallest}
 use Rattle.closing.proofs.Laws.{smallest-none, smallest-turn, smallest-done}

@@ -1,6 +1,5 @@
 -- `commit::writes` meets its contract: the test picks the side.
 use borrow.Author.Tests.{eq-eqb, ne-eqb}
-use borrow.Author.Needs.{needs}
 use Rattle.commit.proofs.writes.Statement.{statement}
 use Rattle.commit.proofs.writes.Tie as tie
 
