@@ -2,3 +2,4 @@
 pub mod Laws
 pub mod Moves
 pub mod Turns
+pub mod Surveys

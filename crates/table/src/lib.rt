@@ -1,8 +1,10 @@
 // Tables of rows, worked on in place: the online table, of 19 bytes a row, and the log, of 14.
 mod bytes;
+pub mod page;
 
 use number::LogNo;
 use number::PageNo;
+use page::Survey;
 
 ghost use mathlib.Core.Path.{_≡_};
 ghost use mathlib.Core.Bool.{true, cond};
@@ -12,8 +14,9 @@ ghost use lib.ListN.{length, take, drop, set, replicate};
 ghost use Rattle.word.specs.Word.{put};
 ghost use Rattle.record.specs.Part.{withPart};
 ghost use Rattle.record.specs.Rows.{rowAt, rows, joined, table, keep};
-ghost use Rattle.record.specs.Record.{ownedBy, bodyOf, rowOf, entered, numbered, numberRows, onPage, committedOn, smallest, greatest, lesser, gone};
+ghost use Rattle.record.specs.Record.{ownedBy, bodyOf, rowOf, entered, numbered, numberRows, gone};
 ghost use Rattle.table.specs.Stays.{stays};
+ghost use Rattle.table.specs.Seen.{Surveyed};
 
 // How many of the first m rows are the owner's.
 pub fn count_owned(t: &[u8], m: usize, owner: u8) -> usize
@@ -209,4 +212,23 @@ pub fn shift(t: &mut [u8], n: usize, size: usize, d: usize)
     let k = (n - d) * 14;
     bytes::slide(t, d * 14, 0, k);
     bytes::clear(t, k);
+}
+
+// The rows of page p among the first m.
+pub fn survey(t: &[u8], m: usize, p: PageNo) -> Survey
+    requires { ⌜ m * 19 ≤ length (now t) ⌝ }
+    ensures { λ r. ⌜ Surveyed (p .0) m (now (t .entry)) r ⌝ }
+{
+    let mut s = Survey {
+        all: 0,
+        committed: 0,
+        least: 0,
+        most: 0,
+    };
+    let mut i = 0;
+    while i < m {
+        s = page::look(s, t, i, p);
+        i += 1;
+    }
+    s
 }
