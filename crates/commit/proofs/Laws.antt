@@ -1,7 +1,7 @@
 -- Laws of zero bytes behind a table's rows, of rows added to the log and numbered online, and of the whole commit.
 use Prim.Native.Nat.{ℕ, zero, suc, _+_, _*_, _-_, _≤_}
 use native.Mathlib.Omega.{arith}
-use native.Mathlib.Nat.{add-mul, mul-sub, mul-comm}
+use native.Mathlib.Nat.{add-mul}
 use mathlib.Core.Path.{_≡_, refl, sym, ap, _∙_}
 use mathlib.Core.Bool.{Bool, true, false, cond, _&&_}
 use mathlib.Core.List.{List, [], _∷_, _++_, append-assoc, map}
@@ -12,7 +12,7 @@ use borrow.Author.Tests.{eqb-true}
 use Rattle.word.specs.Word.{num, put}
 use Rattle.record.specs.Rows.{rows, joined, table, keep}
 use Rattle.record.specs.Record.{bodyOf, ownedBy, numberRows}
-use Rattle.table.proofs.Laws.{joined-all, length-rows, keep-length}
+use Rattle.table.proofs.Laws.{sub-mul, joined-all, joined-append, length-rows, length-number, keep-length}
 use Rattle.rules.specs.Sound.{every, zeros}
 use Rattle.rules.specs.Lent.{Lent, lentOf, liveAt}
 use Rattle.rules.specs.Steps.{committing}
@@ -44,20 +44,12 @@ zeros-from a b l h k =
     ∙ drop-replicate (length (drop a l)) (b - a)
     ∙ ap (λ (x : ℕ). replicate x 0) n
 
-sub-mul : (m n k : ℕ) → (m - n) * k ≡ m * k - n * k
-sub-mul m n k = mul-comm (m - n) k ∙ mul-sub k m n ∙ ap (λ (x : ℕ). x - k * n) (mul-comm k m) ∙ ap (λ (x : ℕ). m * k - x) (mul-comm k n)
-
 -- rows in front of zero bytes are a table
 pub table-of : (w size b : ℕ) (rs : List (List ℕ)) (l tail : List ℕ) → length l ≡ size * w → b ≡ length rs * w → tail ≡ replicate (length l - b) 0 → joined rs ++ tail ≡ table w size rs
 unfolding table
 table-of w size b rs l tail h eb e =
     let n : length l - b ≡ (size - length rs) * w = ap (λ (x : ℕ). x - b) h ∙ ap (λ (x : ℕ). size * w - x) eb ∙ sym (sub-mul size (length rs) w) in
     ap (λ (x : List ℕ). joined rs ++ x) (e ∙ ap (λ (x : ℕ). replicate x 0) n)
-
-joined-append : (a b : List (List ℕ)) → joined (a ++ b) ≡ joined a ++ joined b
-unfolding joined
-joined-append [] b = refl
-joined-append (r ∷ a) b = ap (λ (x : List ℕ). r ++ x) (joined-append a b) ∙ sym (append-assoc r (joined a) (joined b))
 
 -- the log with k rows more
 pub log-more : (w size n k : ℕ) (rs : List (List ℕ)) (l : List ℕ) → length rs ≡ k → length l ≡ size * w → zeros (drop (n * w) l) ≡ true
@@ -70,21 +62,11 @@ log-more w size n k rs l q h z =
     ∙ ap (λ (x : List ℕ). x ++ drop ((n + k) * w) l) (sym (joined-append (rows w n l 0) rs))
     ∙ table-of w size ((n + k) * w) (rows w n l 0 ++ rs) l (drop ((n + k) * w) l) h (ap (λ (x : ℕ). x * w) (sym e)) (zeros-from (n * w) ((n + k) * w) l z m)
 
--- numbered rows are as many
-length-pick : (b : Bool) (x y : List ℕ) (xs ys : List (List ℕ)) (n : ℕ) → length xs ≡ n → length ys ≡ n → length (cond b (x ∷ xs) (y ∷ ys)) ≡ suc n
-length-pick true x y xs ys n h k = ap suc h
-length-pick false x y xs ys n h k = ap suc k
-
-pub length-numbered : (x k : ℕ) (rs : List (List ℕ)) → length (numberRows x k rs) ≡ length rs
-unfolding numberRows
-length-numbered x k [] = refl
-length-numbered x k (r ∷ rs) = length-pick (ownedBy x r) _ _ (numberRows x (k + 1) rs) (numberRows x k rs) (length rs) (length-numbered x (k + 1) rs) (length-numbered x k rs)
-
 -- the online table with an owner's rows numbered
 pub online-numbered : (size m x k : ℕ) (l : List ℕ) → length l ≡ size * 19 → zeros (drop (m * 19) l) ≡ true
     → joined (numberRows x k (rows 19 m l 0)) ++ drop (m * 19) l ≡ table 19 size (numberRows x k (rows 19 m l 0))
 online-numbered size m x k l h z =
-    let n : length (numberRows x k (rows 19 m l 0)) ≡ m = length-numbered x k (rows 19 m l 0) ∙ length-rows 19 m l 0 in
+    let n : length (numberRows x k (rows 19 m l 0)) ≡ m = length-number x k (rows 19 m l 0) ∙ length-rows 19 m l 0 in
     let i : m * 19 ≤ m * 19 = omega arith in
     table-of 19 size (m * 19) (numberRows x k (rows 19 m l 0)) l (drop (m * 19) l) h (ap (λ (y : ℕ). y * 19) (sym n)) (zeros-from (m * 19) (m * 19) l z i)
 
