@@ -1,12 +1,11 @@
 -- Laws of rows: a turn of a loop over them, rows as bytes, tables in canonical form.
 use Prim.Native.Nat.{ℕ, zero, suc, _+_, _*_, _-_, _≤_, _<_}
 use native.Mathlib.Omega.{arith}
-use native.Mathlib.Nat.{suc-mul, zero-mul, add-mul, one-mul, mul-comm, mul-sub, mul-le-mul-right, add-comm}
-use native.Mathlib.Numerals.{add-one}
+use native.Mathlib.Nat.{suc-mul, zero-mul, add-mul, one-mul, mul-comm, mul-sub, add-comm}
 use mathlib.Core.Path.{_≡_, refl, sym, ap, _∙_}
 use mathlib.Core.Bool.{Bool, true, false, cond}
 use mathlib.Core.List.{List, [], _∷_, _++_, append-assoc, append-nil, map}
-use lib.ListN.{length, take, drop, getD, set, replicate, take-append-drop, length-append, length-drop, length-take, length-set, length-replicate}
+use lib.ListN.{length, take, drop, set, replicate, take-append-drop, length-append, length-drop, length-set, length-replicate}
 use lib.Seq.{take-add, drop-drop, take-at, drop-at, length-take-le}
 use Rattle.record.specs.Part.{part, withPart}
 use Rattle.record.specs.Rows.{rowAt, rows, joined, table, consIf, keep}
@@ -210,9 +209,9 @@ rows-from {w} f z i (one {r} {rs} le h) e =
     let b : f ++ ((r ++ joined rs) ++ z) ≡ f ++ r ++ (joined rs ++ z) = a ∙ sym (append-assoc f r (joined rs ++ z)) in
     let n : length (f ++ r) ≡ (i + 1) * w = length-append f r ∙ ap (λ (k : ℕ). k + length r) e ∙ ap (λ (k : ℕ). i * w + k) le ∙ sym (row-after i w) in
     let row : rowAt w (f ++ ((r ++ joined rs) ++ z)) i ≡ r =
-        ap (λ (l : List ℕ). take w (drop (i * w) l)) a ∙ ap (λ (l : List ℕ). take w l) (drop-at f (r ++ (joined rs ++ z)) (i * w) e) ∙ take-at r (joined rs ++ z) w le in
+    ap (λ (l : List ℕ). take w (drop (i * w) l)) a ∙ ap (λ (l : List ℕ). take w l) (drop-at f (r ++ (joined rs ++ z)) (i * w) e) ∙ take-at r (joined rs ++ z) w le in
     let rest : rows w (length rs) (f ++ ((r ++ joined rs) ++ z)) (i + 1) ≡ rs =
-        ap (λ (l : List ℕ). rows w (length rs) l (i + 1)) b ∙ rows-from (f ++ r) z (i + 1) h n in
+    ap (λ (l : List ℕ). rows w (length rs) l (i + 1)) b ∙ rows-from (f ++ r) z (i + 1) h n in
     ap (λ (x : List ℕ). x ∷ rows w (length rs) (f ++ ((r ++ joined rs) ++ z)) (i + 1)) row ∙ ap (λ (l : List (List ℕ)). r ∷ l) rest
 
 pub rows-joined : {w : ℕ} {rs : List (List ℕ)} (z : List ℕ) → Wide w rs → rows w (length rs) (joined rs ++ z) 0 ≡ rs
@@ -223,8 +222,8 @@ pub rows-extended : {w : ℕ} (n : ℕ) (l z : List ℕ) {rs : List (List ℕ)} 
     → rows w (n + length rs) (take (n * w) l ++ (joined rs ++ z)) 0 ≡ rows w n l 0 ++ rs
 rows-extended {w} n l z {rs} h k =
     let b : take (n * w) l ++ (joined rs ++ z) ≡ joined (rows w n l 0 ++ rs) ++ z =
-        ap (λ (x : List ℕ). x ++ (joined rs ++ z)) (sym (joined-all w n l)) ∙ sym (append-assoc (joined (rows w n l 0)) (joined rs) z)
-        ∙ ap (λ (x : List ℕ). x ++ z) (sym (joined-append (rows w n l 0) rs)) in
+    ap (λ (x : List ℕ). x ++ (joined rs ++ z)) (sym (joined-all w n l)) ∙ sym (append-assoc (joined (rows w n l 0)) (joined rs) z)
+    ∙ ap (λ (x : List ℕ). x ++ z) (sym (joined-append (rows w n l 0) rs)) in
     let c : n + length rs ≡ length (rows w n l 0 ++ rs) = sym (length-append (rows w n l 0) rs ∙ ap (λ (x : ℕ). x + length rs) (length-rows w n l 0)) in
     ap (λ (x : List ℕ). rows w (n + length rs) x 0) b ∙ ap (λ (x : ℕ). rows w x (joined (rows w n l 0 ++ rs) ++ z) 0) c
     ∙ rows-joined z (wide-append (wide-all w n l h) k)
@@ -242,8 +241,8 @@ unfolding table
 length-table {w} size {rs} h le =
     let z : List ℕ = replicate ((size - length rs) * w) 0 in
     let e : length (joined rs ++ z) ≡ length rs * w + (size - length rs) * w =
-        length-append (joined rs) z ∙ ap (λ (n : ℕ). n + length z) (length-joined h)
-        ∙ ap (λ (n : ℕ). length rs * w + n) (length-replicate {A = ℕ} ((size - length rs) * w) 0) in
+    length-append (joined rs) z ∙ ap (λ (n : ℕ). n + length z) (length-joined h)
+    ∙ ap (λ (n : ℕ). length rs * w + n) (length-replicate {A = ℕ} ((size - length rs) * w) 0) in
     let f : length rs + (size - length rs) ≡ size = omega arith in
     e ∙ sym (add-mul (length rs) (size - length rs) w) ∙ ap (λ (n : ℕ). n * w) f
 

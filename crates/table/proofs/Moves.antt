@@ -5,8 +5,8 @@ use native.Mathlib.Nat.{zero-add, suc-add, not-suc-le-zero, le-of-suc-le-suc}
 use native.Mathlib.Numerals.{add-one}
 use mathlib.Core.Path.{_≡_, refl, sym, ap, _∙_}
 use mathlib.Core.List.{List, [], _∷_, _++_, append-assoc, append-nil}
-use lib.ListN.{length, take, drop, getD, set, replicate, take-append-drop, length-append, length-drop, length-take}
-use lib.Seq.{take-add, drop-drop, take-at, drop-at, take-length, drop-length, take-all, length-take-le, getD-append-add, getD-drop}
+use lib.ListN.{length, take, drop, getD, set, replicate, take-append-drop, length-append, length-drop}
+use lib.Seq.{drop-drop, take-at, drop-at, take-length, drop-length, take-all, length-take-le, getD-append-add, getD-drop}
 use lib.ListN.{drop-of-length-le, length-set}
 use borrow.Author.Fill.{fill-more}
 use Rattle.record.specs.Part.{part, withPart}

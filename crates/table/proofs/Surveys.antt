@@ -1,5 +1,5 @@
 -- Laws of a survey: one row more, and the turns of the loop over rows.
-use Prim.Native.Nat.{ℕ, _+_, _*_, _-_, _≤_, _<_, max}
+use Prim.Native.Nat.{ℕ, _+_, _-_, _≤_, _<_, max}
 use native.Mathlib.Omega.{arith}
 use mathlib.Core.Path.{_≡_, refl, sym, ap, _∙_}
 use mathlib.Core.Bool.{Bool, true, false, _&&_}
@@ -20,12 +20,12 @@ seen-by : (s r : Survey) (p : ℕ) (x : List ℕ) (u v : Bool) → onPage p x �
     → r .all ≡ s .all + length (consIf u x []) → r .committed ≡ s .committed + length (consIf v x [])
     → r .least ≡ smallest (s .least) (consIf v x []) → r .most ≡ greatest (s .most) (consIf v x []) → Seen s p x r
 seen-by s r p x u v ue ve ae ce le me =
-    record
-      { all = ae ∙ ap (λ (l : List (List ℕ)). s .all + length l) (sym (keep-one (onPage p) x u ue))
-      ; committed = ce ∙ ap (λ (l : List (List ℕ)). s .committed + length l) (sym (keep-one (committedOn p) x v ve))
-      ; least = le ∙ ap (λ (l : List (List ℕ)). smallest (s .least) l) (sym (keep-one (committedOn p) x v ve))
-      ; most = me ∙ ap (λ (l : List (List ℕ)). greatest (s .most) l) (sym (keep-one (committedOn p) x v ve))
-      }
+    record {
+      all = ae ∙ ap (λ (l : List (List ℕ)). s .all + length l) (sym (keep-one (onPage p) x u ue));
+      committed = ce ∙ ap (λ (l : List (List ℕ)). s .committed + length l) (sym (keep-one (committedOn p) x v ve));
+      least = le ∙ ap (λ (l : List (List ℕ)). smallest (s .least) l) (sym (keep-one (committedOn p) x v ve));
+      most = me ∙ ap (λ (l : List (List ℕ)). greatest (s .most) l) (sym (keep-one (committedOn p) x v ve));
+    }
 
 -- a row of another page
 pub seen-other : (s : Survey) (p : ℕ) (x : List ℕ) → eqb (pageOf x) p ≡ false → Seen s p x s
@@ -58,15 +58,15 @@ pub record Surveying (p m : ℕ) (t : List ℕ) (s : Survey) (i : ℕ) : Type 0 
 
 pub survey-none : (p m : ℕ) (t : List ℕ) (s : Survey) → s .all ≡ 0 → s .committed ≡ 0 → s .least ≡ 0 → s .most ≡ 0 → Surveying p m t s 0
 survey-none p m t s ae ce le me =
-    record
-      { within = omega arith
-      ; all = ap (λ (n : ℕ). n + length (keep (onPage p) (rows 19 (m - 0) t 0))) ae ∙ count-start (onPage p) 19 m t 0
-      ; committed = ap (λ (n : ℕ). n + length (keep (committedOn p) (rows 19 (m - 0) t 0))) ce ∙ count-start (committedOn p) 19 m t 0
-      ; least = ap (λ (n : ℕ). smallest n (keep (committedOn p) (rows 19 (m - 0) t 0))) le ∙ ap (λ (l : List (List ℕ)). smallest 0 (keep (committedOn p) l)) (rows-start 19 m t)
-      ; most = ap (λ (n : ℕ). greatest n (keep (committedOn p) (rows 19 (m - 0) t 0))) me ∙ ap (λ (l : List (List ℕ)). greatest 0 (keep (committedOn p) l)) (rows-start 19 m t)
-      ; fewer = omega arith
-      ; below = omega arith
-      }
+    record {
+      within = omega arith;
+      all = ap (λ (n : ℕ). n + length (keep (onPage p) (rows 19 (m - 0) t 0))) ae ∙ count-start (onPage p) 19 m t 0;
+      committed = ap (λ (n : ℕ). n + length (keep (committedOn p) (rows 19 (m - 0) t 0))) ce ∙ count-start (committedOn p) 19 m t 0;
+      least = ap (λ (n : ℕ). smallest n (keep (committedOn p) (rows 19 (m - 0) t 0))) le ∙ ap (λ (l : List (List ℕ)). smallest 0 (keep (committedOn p) l)) (rows-start 19 m t);
+      most = ap (λ (n : ℕ). greatest n (keep (committedOn p) (rows 19 (m - 0) t 0))) me ∙ ap (λ (l : List (List ℕ)). greatest 0 (keep (committedOn p) l)) (rows-start 19 m t);
+      fewer = omega arith;
+      below = omega arith;
+    }
 
 -- a row in front, and those after it
 length-cut : (z : Bool) (x : List ℕ) (l : List (List ℕ)) (n : ℕ) → n + length (consIf z x []) + length l ≡ n + length (consIf z x l)
@@ -118,26 +118,26 @@ survey-more p m t s i r inv lt e =
     let kc : length (keep (committedOn p) (x ∷ [])) ≡ length (consIf (eqb (pageOf x) p && committed x) x []) = ap (λ (l : List (List ℕ)). length l) (keep-one (committedOn p) x (eqb (pageOf x) p && committed x) refl) in
     let f : length (consIf (eqb (pageOf x) p && committed x) x []) ≤ length (consIf (eqb (pageOf x) p) x []) = fewer-one (eqb (pageOf x) p) (committed x) x in
     let o : length (consIf (eqb (pageOf x) p) x []) ≤ 1 = one-at-most (eqb (pageOf x) p) x in
-    record
-      { within = omega arith
-      ; all = count-cut (onPage p) m t i (s .all) (r .all) lt (e .all) ∙ inv .all
-      ; committed = count-cut (committedOn p) m t i (s .committed) (r .committed) lt (e .committed) ∙ inv .committed
-      ; least = least-cut (committedOn p) m t i (s .least) (r .least) lt (e .least) ∙ inv .least
-      ; most = most-cut (committedOn p) m t i (s .most) (r .most) lt (e .most) ∙ inv .most
-      ; fewer = omega (arith, e .all, e .committed, inv .fewer)
-      ; below = omega (arith, e .all, inv .below)
-      }
+    record {
+      within = omega arith;
+      all = count-cut (onPage p) m t i (s .all) (r .all) lt (e .all) ∙ inv .all;
+      committed = count-cut (committedOn p) m t i (s .committed) (r .committed) lt (e .committed) ∙ inv .committed;
+      least = least-cut (committedOn p) m t i (s .least) (r .least) lt (e .least) ∙ inv .least;
+      most = most-cut (committedOn p) m t i (s .most) (r .most) lt (e .most) ∙ inv .most;
+      fewer = omega (arith, e .all, e .committed, inv .fewer);
+      below = omega (arith, e .all, inv .below);
+    }
 
 pub survey-all : (p m : ℕ) (t : List ℕ) (s : Survey) (i : ℕ) → Surveying p m t s i → m ≤ i → Surveyed p m t s
 unfolding smallest greatest
 survey-all p m t s i inv q =
     let ae : s .all ≡ 0 + length (keep (onPage p) (rows 19 m t 0)) = count-end (onPage p) 19 m t i (s .all) _ q (inv .all) in
     let ce : s .committed ≡ 0 + length (keep (committedOn p) (rows 19 m t 0)) = count-end (committedOn p) 19 m t i (s .committed) _ q (inv .committed) in
-    record
-      { all = omega arith
-      ; committed = omega arith
-      ; least = ap (λ (l : List (List ℕ)). smallest (s .least) l) (sym (keep-rows-end (committedOn p) 19 m t i q)) ∙ inv .least
-      ; most = ap (λ (l : List (List ℕ)). greatest (s .most) l) (sym (keep-rows-end (committedOn p) 19 m t i q)) ∙ inv .most
-      ; fewer = inv .fewer
-      ; below = omega (arith, inv .below, inv .within)
-      }
+    record {
+      all = omega arith;
+      committed = omega arith;
+      least = ap (λ (l : List (List ℕ)). smallest (s .least) l) (sym (keep-rows-end (committedOn p) 19 m t i q)) ∙ inv .least;
+      most = ap (λ (l : List (List ℕ)). greatest (s .most) l) (sym (keep-rows-end (committedOn p) 19 m t i q)) ∙ inv .most;
+      fewer = inv .fewer;
+      below = omega (arith, inv .below, inv .within);
+    }

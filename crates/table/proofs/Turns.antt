@@ -1,13 +1,12 @@
 -- The turns and ends of this crate's loops over rows.
-use Prim.Native.Nat.{ℕ, zero, suc, _+_, _*_, _-_, _≤_, _<_}
+use Prim.Native.Nat.{ℕ, suc, _+_, _*_, _-_, _≤_, _<_}
 use native.Mathlib.Omega.{arith}
 use mathlib.Core.Path.{_≡_, refl, sym, ap, _∙_}
 use mathlib.Core.Bool.{Bool, true, false, cond, _&&_}
-use mathlib.Core.List.{List, [], _∷_, _++_, append-assoc, append-nil, map}
-use lib.ListN.{length, take, drop, set, replicate, take-append-drop, length-append, length-drop, drop-of-length-le}
+use mathlib.Core.List.{List, _∷_, _++_, append-assoc, append-nil, map}
+use lib.ListN.{length, take, drop, replicate, take-append-drop, length-drop, drop-of-length-le}
 use lib.Seq.{take-take, drop-drop, length-take-le}
 use lib.Dec.{eqb}
-use Rattle.word.specs.Word.{put}
 use Rattle.record.specs.Part.{part, withPart}
 use Rattle.record.specs.Rows.{rowAt, rows, joined, table, consIf, keep}
 use Rattle.record.specs.Record.{pageOf, ownerOf, bodyOf, ownedBy, gone, numbered, numberRows}
@@ -56,8 +55,8 @@ number-turn x m j k i o t s p y z f lt fit same pe ly ye ie se inv =
     let yr : y ≡ cond (ownedBy x (rowAt 19 o j)) (numbered (rowAt 19 o j) k) (rowAt 19 o j) = ye ∙ ap (λ (q : List ℕ). cond (ownedBy x q) (numbered q k) q) pe in
     let ir : i ≡ cond (ownedBy x (rowAt 19 o j)) (k + 1) k = ie ∙ ap (λ (q : List ℕ). cond (ownedBy x q) (k + 1) k) pe in
     let e : numberRows x k (rows 19 (m - j) o j) ≡ y ∷ numberRows x i rs =
-        ap (λ (l : List (List ℕ)). numberRows x k l) (rows-more 19 m o j lt) ∙ numberRows-cons x k (rowAt 19 o j) rs
-        ∙ ap (λ (q : List ℕ). q ∷ numberRows x (cond (ownedBy x (rowAt 19 o j)) (k + 1) k) rs) (sym yr) ∙ ap (λ (q : ℕ). y ∷ numberRows x q rs) (sym ir) in
+    ap (λ (l : List (List ℕ)). numberRows x k l) (rows-more 19 m o j lt) ∙ numberRows-cons x k (rowAt 19 o j) rs
+    ∙ ap (λ (q : List ℕ). q ∷ numberRows x (cond (ownedBy x (rowAt 19 o j)) (k + 1) k) rs) (sym yr) ∙ ap (λ (q : ℕ). y ∷ numberRows x q rs) (sym ir) in
     ap (λ (q : List ℕ). q ++ (joined (numberRows x i rs) ++ z)) (with-take (j * 19) 19 ((j + 1) * 19) t s y h ly n se)
     ∙ append-assoc (take (j * 19) t) y (joined (numberRows x i rs) ++ z)
     ∙ ap (λ (q : List ℕ). take (j * 19) t ++ q) (sym (append-assoc y (joined (numberRows x i rs)) z))
@@ -75,14 +74,14 @@ pub record Numbering (x next m : ℕ) (o t : List ℕ) (k j : ℕ) : Type 0 wher
 
 pub number-none : (x next m : ℕ) (o : List ℕ) → Numbering x next m o o next 0
 number-none x next m o =
-    record
-      { within = omega arith
-      ; same = refl
-      ; after = refl
-      ; bytes = ap (λ (l : List (List ℕ)). joined (numberRows x next l) ++ drop (m * 19) o) (rows-start 19 m o)
-      ; count = count-start (ownedBy x) 19 m o next
-      ; below = omega arith
-      }
+    record {
+      within = omega arith;
+      same = refl;
+      after = refl;
+      bytes = ap (λ (l : List (List ℕ)). joined (numberRows x next l) ++ drop (m * 19) o) (rows-start 19 m o);
+      count = count-start (ownedBy x) 19 m o next;
+      below = omega arith;
+    }
 
 pub number-more : (x next m : ℕ) (o t : List ℕ) (k j i : ℕ) (y : List ℕ) → Numbering x next m o t k j → m * 19 ≤ length o → j < m
     → length y ≡ length (take (j * 19 + 19 - j * 19) (drop (j * 19) t))
@@ -97,14 +96,14 @@ number-more x next m o t k j i y inv fit lt ly ye ie =
     let ly₁ : length y ≡ 19 = ly ∙ lent-length (j * 19) 19 t h in
     let pe : p ≡ rowAt 19 o j = lent-row (j * 19) (j * 19 + 19) 19 t o refl (inv .after) in
     let se : s ≡ withPart (j * 19) 19 t y = lent-back (j * 19) (j * 19 + 19) 19 t y y refl refl in
-    record
-      { within = omega arith
-      ; same = with-length (j * 19) 19 ((j + 1) * 19) t s y h ly₁ n se ∙ inv .same
-      ; after = with-drop (j * 19) 19 ((j + 1) * 19) t s y h ly₁ n se ∙ after-more (j * 19) 19 ((j + 1) * 19) t o n (inv .after)
-      ; bytes = number-turn x m j k i o t s p y (drop (m * 19) o) _ lt fit (inv .same) pe ly₁ ye ie se (inv .bytes)
-      ; count = count-turn (ownedBy x) 19 m o j k i _ lt (ie ∙ ap (λ (q : List ℕ). cond (ownedBy x q) (k + 1) k) pe) (inv .count)
-      ; below = omega (arith, step-le (ownedBy x p) k i ie)
-      }
+    record {
+      within = omega arith;
+      same = with-length (j * 19) 19 ((j + 1) * 19) t s y h ly₁ n se ∙ inv .same;
+      after = with-drop (j * 19) 19 ((j + 1) * 19) t s y h ly₁ n se ∙ after-more (j * 19) 19 ((j + 1) * 19) t o n (inv .after);
+      bytes = number-turn x m j k i o t s p y (drop (m * 19) o) _ lt fit (inv .same) pe ly₁ ye ie se (inv .bytes);
+      count = count-turn (ownedBy x) 19 m o j k i _ lt (ie ∙ ap (λ (q : List ℕ). cond (ownedBy x q) (k + 1) k) pe) (inv .count);
+      below = omega (arith, step-le (ownedBy x p) k i ie);
+    }
 
 number-end : (x m j k : ℕ) (o t f : List ℕ) → j ≤ m → m ≤ j → drop (j * 19) t ≡ drop (j * 19) o
     → take (j * 19) t ++ (joined (numberRows x k (rows 19 (m - j) o j)) ++ drop (m * 19) o) ≡ f → t ≡ f
@@ -151,13 +150,13 @@ pub record Logging (x n m : ℕ) (t o l : List ℕ) (k j : ℕ) : Type 0 where
 
 pub log-none : (x n m : ℕ) (t o : List ℕ) → Logging x n m t o o n 0
 log-none x n m t o =
-    record
-      { within = omega arith
-      ; same = refl
-      ; after = refl
-      ; bytes = ap (λ (q : List (List ℕ)). take (n * 14) o ++ (joined (map bodyOf (keep (ownedBy x) q)) ++ drop ((n + length (keep (ownedBy x) (rows 19 m t 0))) * 14) o)) (rows-start 19 m t)
-      ; count = count-start (ownedBy x) 19 m t n
-      }
+    record {
+      within = omega arith;
+      same = refl;
+      after = refl;
+      bytes = ap (λ (q : List (List ℕ)). take (n * 14) o ++ (joined (map bodyOf (keep (ownedBy x) q)) ++ drop ((n + length (keep (ownedBy x) (rows 19 m t 0))) * 14) o)) (rows-start 19 m t);
+      count = count-start (ownedBy x) 19 m t n;
+    }
 
 -- there is room for one row more of the owner's
 pub log-room : (x n m : ℕ) (t o l : List ℕ) (k j : ℕ) → Logging x n m t o l k j → n * 14 + length (keep (ownedBy x) (rows 19 m t 0)) * 14 ≤ length o
@@ -165,7 +164,7 @@ pub log-room : (x n m : ℕ) (t o l : List ℕ) (k j : ℕ) → Logging x n m t 
 log-room x n m t o l k j inv room lt own =
     let r : List (List ℕ) = keep (ownedBy x) (rows 19 (m - (j + 1)) t (j + 1)) in
     let e : length (keep (ownedBy x) (rows 19 (m - j) t j)) ≡ suc (length r) =
-        ap (λ (q : List (List ℕ)). length q) (keep-rows-more (ownedBy x) 19 m t j lt) ∙ ap (λ (z : Bool). length (consIf z (rowAt 19 t j) r)) own in
+    ap (λ (q : List (List ℕ)). length q) (keep-rows-more (ownedBy x) 19 m t j lt) ∙ ap (λ (z : Bool). length (consIf z (rowAt 19 t j) r)) own in
     omega arith
 
 pub log-more : (x n m : ℕ) (t o l : List ℕ) (k j : ℕ) (s : List ℕ) (i : ℕ) → Logging x n m t o l k j
@@ -176,51 +175,55 @@ log-more x n m t o l k j s i inv fit room lt = go (ownedBy x (rowAt 19 t j)) ref
   where
     r : List (List ℕ)
     r = keep (ownedBy x) (rows 19 (m - (j + 1)) t (j + 1))
+
     y : List ℕ
     y = bodyOf (rowAt 19 t j)
+
     z : List ℕ
     z = drop ((n + length (keep (ownedBy x) (rows 19 m t 0))) * 14) o
+
     go : (w : Bool) → ownedBy x (rowAt 19 t j) ≡ w → s ≡ cond w (withPart (k * 14) 14 l y) l → i ≡ cond w (k + 1) k → Logging x n m t o s i (j + 1)
     go true own se ie =
         let h : k * 14 + 14 ≤ length l = log-room x n m t o l k j inv room lt own in
         let ly : length y ≡ 14 = body-length t j (omega arith) in
         let e : i * 14 ≡ k * 14 + 14 = omega arith in
-        record
-          { within = omega arith
-          ; same = with-length (k * 14) 14 (i * 14) l s y h ly e se ∙ inv .same
-          ; after = with-drop (k * 14) 14 (i * 14) l s y h ly e se ∙ after-more (k * 14) 14 (i * 14) l o e (inv .after)
-          ; bytes =
+        record {
+          within = omega arith;
+          same = with-length (k * 14) 14 (i * 14) l s y h ly e se ∙ inv .same;
+          after = with-drop (k * 14) 14 (i * 14) l s y h ly e se ∙ after-more (k * 14) 14 (i * 14) l o e (inv .after);
+          bytes =
               ap (λ (q : List ℕ). q ++ (joined (map bodyOf r) ++ z)) (with-take (k * 14) 14 (i * 14) l s y h ly e se)
               ∙ append-assoc (take (k * 14) l) y (joined (map bodyOf r) ++ z)
               ∙ ap (λ (q : List ℕ). take (k * 14) l ++ q) (sym (append-assoc y (joined (map bodyOf r)) z))
               ∙ ap (λ (q : List ℕ). take (k * 14) l ++ (q ++ z)) (sym (joined-cons y (map bodyOf r)))
               ∙ ap (λ (q : List (List ℕ)). take (k * 14) l ++ (joined (map bodyOf q) ++ z)) (sym (keep-rows-more (ownedBy x) 19 m t j lt ∙ ap (λ (w : Bool). consIf w (rowAt 19 t j) r) own))
-              ∙ inv .bytes
-          ; count = count-turn (ownedBy x) 19 m t j k i _ lt (ie ∙ ap (λ (w : Bool). cond w (k + 1) k) (sym own)) (inv .count)
-          }
+              ∙ inv .bytes;
+          count = count-turn (ownedBy x) 19 m t j k i _ lt (ie ∙ ap (λ (w : Bool). cond w (k + 1) k) (sym own)) (inv .count);
+        }
     go false own se ie =
-        record
-          { within = omega arith
-          ; same = ap (λ (q : List ℕ). length q) se ∙ inv .same
-          ; after = ap (λ (q : List ℕ). drop (i * 14) q) se ∙ ap (λ (q : ℕ). drop (q * 14) l) ie ∙ inv .after ∙ ap (λ (q : ℕ). drop (q * 14) o) (sym ie)
-          ; bytes =
+        record {
+          within = omega arith;
+          same = ap (λ (q : List ℕ). length q) se ∙ inv .same;
+          after = ap (λ (q : List ℕ). drop (i * 14) q) se ∙ ap (λ (q : ℕ). drop (q * 14) l) ie ∙ inv .after ∙ ap (λ (q : ℕ). drop (q * 14) o) (sym ie);
+          bytes =
               ap (λ (q : List ℕ). take (i * 14) q ++ (joined (map bodyOf r) ++ z)) se
               ∙ ap (λ (q : ℕ). take (q * 14) l ++ (joined (map bodyOf r) ++ z)) ie
               ∙ ap (λ (q : List (List ℕ)). take (k * 14) l ++ (joined (map bodyOf q) ++ z)) (sym (keep-rows-more (ownedBy x) 19 m t j lt ∙ ap (λ (w : Bool). consIf w (rowAt 19 t j) r) own))
-              ∙ inv .bytes
-          ; count = count-turn (ownedBy x) 19 m t j k i _ lt (ie ∙ ap (λ (w : Bool). cond w (k + 1) k) (sym own)) (inv .count)
-          }
+              ∙ inv .bytes;
+          count = count-turn (ownedBy x) 19 m t j k i _ lt (ie ∙ ap (λ (w : Bool). cond w (k + 1) k) (sym own)) (inv .count);
+        }
 
 pub log-all : (x n m : ℕ) (t o l : List ℕ) (k j : ℕ) → Logging x n m t o l k j → m ≤ j
     → (l ≡ take (n * 14) o ++ (joined (map bodyOf (keep (ownedBy x) (rows 19 m t 0))) ++ drop ((n + length (keep (ownedBy x) (rows 19 m t 0))) * 14) o))
     × (k ≡ n + length (keep (ownedBy x) (rows 19 m t 0)))
 unfolding joined
 log-all x n m t o l k j inv q =
-    let e : k ≡ n + length (keep (ownedBy x) (rows 19 m t 0)) = count-end (ownedBy x) 19 m t j k _ q (inv .count) in
-    (sym (take-append-drop (k * 14) l) ∙ ap (λ (y : List ℕ). take (k * 14) l ++ y) (inv .after ∙ ap (λ (i : ℕ). drop (i * 14) o) e)
-    ∙ ap (λ (y : List (List ℕ)). take (k * 14) l ++ (joined (map bodyOf y) ++ drop ((n + length (keep (ownedBy x) (rows 19 m t 0))) * 14) o)) (sym (keep-rows-end (ownedBy x) 19 m t j q))
-    ∙ inv .bytes,
-    e)
+    let e : k ≡ n + length (keep (ownedBy x) (rows 19 m t 0)) = count-end (ownedBy x) 19 m t j k _ q (inv .count) in (
+      sym (take-append-drop (k * 14) l) ∙ ap (λ (y : List ℕ). take (k * 14) l ++ y) (inv .after ∙ ap (λ (i : ℕ). drop (i * 14) o) e)
+          ∙ ap (λ (y : List (List ℕ)). take (k * 14) l ++ (joined (map bodyOf y) ++ drop ((n + length (keep (ownedBy x) (rows 19 m t 0))) * 14) o)) (sym (keep-rows-end (ownedBy x) 19 m t j q))
+          ∙ inv .bytes,
+      e,
+    )
 
 -- `is_gone`
 pub gone-page : (w : Bool) (x p q a : ℕ) (r : List ℕ) → w ≡ false → q ≡ pageOf r → a ≡ ownerOf r → eqb q p && eqb a x ≡ gone w x p r
@@ -238,14 +241,14 @@ pub record Squeezing (b : List ℕ → Bool) (m : ℕ) (o t : List ℕ) (k j : �
 
 pub squeeze-none : (b : List ℕ → Bool) (m : ℕ) (o : List ℕ) → Squeezing b m o o 0 0
 squeeze-none b m o =
-    record
-      { within = omega arith
-      ; less = omega arith
-      ; same = refl
-      ; after = refl
-      ; bytes = ap (λ (q : List (List ℕ)). joined (keep b q)) (rows-start 19 m o)
-      ; count = count-start b 19 m o 0
-      }
+    record {
+      within = omega arith;
+      less = omega arith;
+      same = refl;
+      after = refl;
+      bytes = ap (λ (q : List (List ℕ)). joined (keep b q)) (rows-start 19 m o);
+      count = count-start b 19 m o 0;
+    }
 
 pub squeeze-more : (b : List ℕ → Bool) (m : ℕ) (o t : List ℕ) (k j : ℕ) (s : List ℕ) (i : ℕ) → Squeezing b m o t k j → m * 19 ≤ length o → j < m
     → s ≡ cond (b (rowAt 19 t j)) (withPart (k * 19) 19 t (rowAt 19 t j)) t → i ≡ cond (b (rowAt 19 t j)) (k + 1) k
@@ -257,55 +260,60 @@ squeeze-more b m o t k j s i inv fit lt se₀ ie₀ =
   where
     y : List ℕ
     y = rowAt 19 o j
+
     r : List (List ℕ)
     r = keep b (rows 19 (m - (j + 1)) o (j + 1))
+
     same-row : rowAt 19 t j ≡ y
     same-row = ap (λ (q : List ℕ). take 19 q) (inv .after)
+
     next : (j + 1) * 19 ≡ j * 19 + 19
     next = omega arith
+
     go : (w : Bool) → b y ≡ w → s ≡ cond w (withPart (k * 19) 19 t y) t → i ≡ cond w (k + 1) k → Squeezing b m o s i (j + 1)
     go true b-is se ie =
         let h : k * 19 + 19 ≤ length t = omega arith in
         let ly : length y ≡ 19 = row-length 19 o j (omega arith) in
         let e : i * 19 ≡ k * 19 + 19 = omega arith in
         let f : (j + 1) * 19 ≡ i * 19 + (j - k) * 19 = omega arith in
-        record
-          { within = omega arith
-          ; less = omega arith
-          ; same = with-length (k * 19) 19 (i * 19) t s y h ly e se ∙ inv .same
-          ; after =
+        record {
+          within = omega arith;
+          less = omega arith;
+          same = with-length (k * 19) 19 (i * 19) t s y h ly e se ∙ inv .same;
+          after =
               after-more (i * 19) ((j - k) * 19) ((j + 1) * 19) s t f (with-drop (k * 19) 19 (i * 19) t s y h ly e se)
-              ∙ after-more (j * 19) 19 ((j + 1) * 19) t o next (inv .after)
-          ; bytes =
+              ∙ after-more (j * 19) 19 ((j + 1) * 19) t o next (inv .after);
+          bytes =
               ap (λ (q : List ℕ). q ++ joined r) (with-take (k * 19) 19 (i * 19) t s y h ly e se)
               ∙ append-assoc (take (k * 19) t) y (joined r)
               ∙ ap (λ (q : List ℕ). take (k * 19) t ++ q) (sym (joined-cons y r))
               ∙ ap (λ (q : List (List ℕ)). take (k * 19) t ++ joined q) (sym (keep-rows-more b 19 m o j lt ∙ ap (λ (w : Bool). consIf w y r) b-is))
-              ∙ inv .bytes
-          ; count = count-turn b 19 m o j k i _ lt (ie ∙ ap (λ (w : Bool). cond w (k + 1) k) (sym b-is)) (inv .count)
-          }
+              ∙ inv .bytes;
+          count = count-turn b 19 m o j k i _ lt (ie ∙ ap (λ (w : Bool). cond w (k + 1) k) (sym b-is)) (inv .count);
+        }
     go false b-is se ie =
-        record
-          { within = omega arith
-          ; less = omega arith
-          ; same = ap (λ (q : List ℕ). length q) se ∙ inv .same
-          ; after = ap (λ (q : List ℕ). drop ((j + 1) * 19) q) se ∙ after-more (j * 19) 19 ((j + 1) * 19) t o next (inv .after)
-          ; bytes =
+        record {
+          within = omega arith;
+          less = omega arith;
+          same = ap (λ (q : List ℕ). length q) se ∙ inv .same;
+          after = ap (λ (q : List ℕ). drop ((j + 1) * 19) q) se ∙ after-more (j * 19) 19 ((j + 1) * 19) t o next (inv .after);
+          bytes =
               ap (λ (q : List ℕ). take (i * 19) q ++ joined r) se
               ∙ ap (λ (q : ℕ). take (q * 19) t ++ joined r) ie
               ∙ ap (λ (q : List (List ℕ)). take (k * 19) t ++ joined q) (sym (keep-rows-more b 19 m o j lt ∙ ap (λ (w : Bool). consIf w y r) b-is))
-              ∙ inv .bytes
-          ; count = count-turn b 19 m o j k i _ lt (ie ∙ ap (λ (w : Bool). cond w (k + 1) k) (sym b-is)) (inv .count)
-          }
+              ∙ inv .bytes;
+          count = count-turn b 19 m o j k i _ lt (ie ∙ ap (λ (w : Bool). cond w (k + 1) k) (sym b-is)) (inv .count);
+        }
 
 pub squeeze-all : (b : List ℕ → Bool) (m : ℕ) (o t : List ℕ) (k j : ℕ) → Squeezing b m o t k j → m ≤ j
     → (take (k * 19) t ≡ joined (keep b (rows 19 m o 0))) × (k ≡ length (keep b (rows 19 m o 0))) × (k ≤ m)
 unfolding joined
 squeeze-all b m o t k j inv q =
-    let e : k ≡ 0 + length (keep b (rows 19 m o 0)) = count-end b 19 m o j k _ q (inv .count) in
-    (sym (append-nil (take (k * 19) t)) ∙ ap (λ (y : List (List ℕ)). take (k * 19) t ++ joined y) (sym (keep-rows-end b 19 m o j q)) ∙ inv .bytes,
-    omega arith,
-    omega arith)
+    let e : k ≡ 0 + length (keep b (rows 19 m o 0)) = count-end b 19 m o j k _ q (inv .count) in (
+      sym (append-nil (take (k * 19) t)) ∙ ap (λ (y : List (List ℕ)). take (k * 19) t ++ joined y) (sym (keep-rows-end b 19 m o j q)) ∙ inv .bytes,
+      omega arith,
+      omega arith,
+    )
 
 -- rows at the front, and zeros from there on
 pub cleared : (w size k : ℕ) (rs : List (List ℕ)) (o t s : List ℕ) → length o ≡ size * w → length t ≡ length o → k ≡ length rs → take (k * w) t ≡ joined rs
@@ -313,7 +321,7 @@ pub cleared : (w size k : ℕ) (rs : List (List ℕ)) (o t s : List ℕ) → len
 unfolding table
 cleared w size k rs o t s lo lt ke te se =
     let e : length t - k * w ≡ (size - length rs) * w =
-        ap (λ (q : ℕ). q - k * w) (lt ∙ lo) ∙ ap (λ (q : ℕ). size * w - q * w) ke ∙ sym (sub-mul size (length rs) w) in
+    ap (λ (q : ℕ). q - k * w) (lt ∙ lo) ∙ ap (λ (q : ℕ). size * w - q * w) ke ∙ sym (sub-mul size (length rs) w) in
     se ∙ ap (λ (q : List ℕ). q ++ replicate (length t - k * w) 0) te ∙ ap (λ (q : ℕ). joined rs ++ replicate q 0) e
 
 -- `shift`

@@ -5,11 +5,10 @@ pub mod page;
 use number::LogNo;
 use number::PageNo;
 use page::Survey;
-
 ghost use mathlib.Core.Path.{_≡_};
 ghost use mathlib.Core.Bool.{true, cond};
-ghost use mathlib.Core.List.{_∷_, _++_, [], map};
-ghost use Prim.Native.Nat.{ℕ, _+_, _*_, _^_, _≤_, _<_};
+ghost use mathlib.Core.List.{_++_, map};
+ghost use Prim.Native.Nat.{_+_, _*_, _^_, _≤_, _<_};
 ghost use lib.ListN.{length, take, drop, set, replicate};
 ghost use Rattle.word.specs.Word.{put};
 ghost use Rattle.record.specs.Part.{withPart};
@@ -65,7 +64,16 @@ fn fill_row(row: &mut [u8], page: PageNo, offset: usize, w: usize, kind: u8, v: 
 }
 
 // An update's record in row m.
-pub fn append(t: &mut [u8], m: usize, page: PageNo, offset: usize, w: usize, kind: u8, v: u64, owner: u8)
+pub fn append(
+    t: &mut [u8],
+    m: usize,
+    page: PageNo,
+    offset: usize,
+    w: usize,
+    kind: u8,
+    v: u64,
+    owner: u8,
+)
     requires { ⌜ (m * 19 + 19 ≤ length (now t)) × (page .0 < 65536) × (offset < 65536) × (w < 256) ⌝ }
     ensures { λ r. ⌜ now (t .exit) ≡ withPart (m * 19) 19 (now (t .entry)) (rowOf (page .0) offset w kind v owner) ⌝ }
 {

@@ -5,7 +5,6 @@ ghost use lib.ListN.{length};
 ghost use Rattle.record.specs.Rows.{rowAt};
 ghost use Rattle.record.specs.Record.{lesser};
 ghost use Rattle.table.specs.Seen.{Seen};
-
 use number::PageNo;
 
 // What the rows of a page come to: how many, how many of them committed, and the smallest and the greatest number of those (0: none).

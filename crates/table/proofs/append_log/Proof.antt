@@ -1,5 +1,5 @@
 -- The records passed are in the log, what is after them is as it was: with those still to come they are the log as it is to be.
-use Prim.Native.Nat.{ℕ, _-_}
+use Prim.Native.Nat.{_-_}
 use native.Mathlib.Omega.{arith}
 use Rattle.table.proofs.Turns.{Logging, log-none, log-room, log-more, log-all}
 use borrow.Author.Needs.{needs}

@@ -1,5 +1,5 @@
 -- A row of another owner's is passed; the part lent to `copy` comes back as the row's record.
-use Prim.Native.Nat.{ℕ, _+_, _*_}
+use Prim.Native.Nat.{_+_, _*_}
 use native.Mathlib.Omega.{arith}
 use mathlib.Core.Path.{_≡_, refl, sym, _∙_}
 use mathlib.Core.Bool.{true}
@@ -61,10 +61,11 @@ same-length c = search needs
 returns-2 : tie.Need-returns-2
 returns-2 c =
     let e : ownedBy (c .before .before .before .before .before .before .before .before .before .args .owner) (rowAt 19 (now (c .before .before .before .before .before .before .before .before .before .args .t)) (c .before .before .before .before .before .before .before .before .before .args .j)) ≡ true = eq-eqb _ _ (sym (c .before .before .before .before .before .before .owner-of .ensures) ∙ c .before .before .before .before .before .if1 .left) in
-    rw e
-    (lent-back (c .before .before .before .before .before .before .before .before .before .args .k * 14) (c .before .before .before .before .before .before .before .before .before .args .k * 14 + 14) 14 (now (c .before .before .before .before .before .before .before .before .before .args .log)) _ _ refl
-    (logged-body (c .before .before .before .before .before .before .before .before .before .args .k * 14) (c .before .before .before .before .before .before .before .before .before .args .j * 19) (now (c .before .before .before .before .before .before .before .before .before .args .log)) (now (c .before .before .before .before .before .before .before .before .before .args .t)) _ (c .before .before .before .before .before .before .before .before .before .pre .1 e) (c .before .before .before .before .before .before .before .before .before .pre .0) (c .before .before .copy .ensures)),
-    refl)
+    rw e (
+      lent-back (c .before .before .before .before .before .before .before .before .before .args .k * 14) (c .before .before .before .before .before .before .before .before .before .args .k * 14 + 14) 14 (now (c .before .before .before .before .before .before .before .before .before .args .log)) _ _ refl
+          (logged-body (c .before .before .before .before .before .before .before .before .before .args .k * 14) (c .before .before .before .before .before .before .before .before .before .args .j * 19) (now (c .before .before .before .before .before .before .before .before .before .args .log)) (now (c .before .before .before .before .before .before .before .before .before .args .t)) _ (c .before .before .before .before .before .before .before .before .before .pre .1 e) (c .before .before .before .before .before .before .before .before .before .pre .0) (c .before .before .copy .ensures)),
+      refl,
+    )
 
 pub log-row-spec : {M : Type 1} → statement M
 log-row-spec =

@@ -1,8 +1,7 @@
 -- A row of another owner's stays; one of the owner's is written twice.
 use native.Mathlib.Omega.{arith}
-use mathlib.Core.Path.{refl, _∙_}
+use mathlib.Core.Path.{refl}
 use lib.ListN.{length-set}
-use denote.Ref.{now}
 use borrow.Author.Tests.{eq-eqb, ne-eqb}
 use Rattle.record.specs.Record.{numbered}
 use borrow.Author.Needs.{needs}

@@ -1,5 +1,5 @@
 -- The rows passed are written, those after are as they were: with those still to be numbered they are the table as it is to be.
-use Prim.Native.Nat.{ℕ, _*_, _-_}
+use Prim.Native.Nat.{_*_, _-_}
 use native.Mathlib.Omega.{arith}
 use Rattle.table.proofs.Moves.{lent-length}
 use Rattle.table.proofs.Turns.{Numbering, number-none, number-more, number-all}

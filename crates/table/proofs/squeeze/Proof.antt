@@ -1,5 +1,5 @@
 -- The rows that stay stand at the front, those not passed are as they were: with those still to stay they are all that do.
-use Prim.Native.Nat.{ℕ, _-_}
+use Prim.Native.Nat.{_-_}
 use Rattle.table.specs.Stays.{stays}
 use Rattle.table.proofs.Turns.{Squeezing, squeeze-none, squeeze-more, squeeze-all}
 use borrow.Author.Needs.{needs}

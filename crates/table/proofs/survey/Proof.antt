@@ -1,7 +1,6 @@
 -- The rows passed are in the survey.
-use Prim.Native.Nat.{ℕ, _-_}
+use Prim.Native.Nat.{_-_}
 use mathlib.Core.Path.{refl}
-use native.Mathlib.Omega.{arith}
 use Rattle.table.proofs.Surveys.{Surveying, survey-none, survey-more, survey-all}
 use borrow.Author.Needs.{needs}
 use Rattle.table.proofs.survey.Statement.{statement}

@@ -1,8 +1,8 @@
 -- The bytes passed are copied, those after are as they were.
-use Prim.Native.Nat.{ℕ, _+_, _-_, _≤_, _<_}
-use mathlib.Core.Path.{_≡_, refl, sym, _∙_}
+use Prim.Native.Nat.{_-_, _≤_}
+use mathlib.Core.Path.{_≡_, refl}
 use mathlib.Core.List.{_++_}
-use lib.ListN.{length, take, drop, replicate}
+use lib.ListN.{length, take, drop}
 use Rattle.table.proofs.Moves.{copy-turn, copy-end}
 use borrow.Author.Needs.{needs}
 use Rattle.table.proofs.bytes.copy.Statement.{statement}

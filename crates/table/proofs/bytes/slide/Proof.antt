@@ -1,8 +1,7 @@
 -- The first i bytes are moved; each is read before it is written over.
-use Prim.Native.Nat.{ℕ, _+_, _-_, _≤_, _<_}
-use mathlib.Core.Path.{_≡_, refl, sym, _∙_}
-use mathlib.Core.List.{_++_}
-use lib.ListN.{length, take, drop, replicate}
+use Prim.Native.Nat.{_-_, _≤_}
+use mathlib.Core.Path.{_≡_, refl}
+use lib.ListN.{length}
 use Rattle.record.specs.Part.{part, withPart}
 use Rattle.table.proofs.Moves.{slide-start, slide-turn, slide-end}
 use denote.Ref.{now}

@@ -1,9 +1,9 @@
 -- The bytes passed are zero, those after are as they were.
-use Prim.Native.Nat.{ℕ, _+_, _-_, _≤_, _<_}
-use mathlib.Core.Path.{_≡_, refl, sym, _∙_}
+use Prim.Native.Nat.{_-_, _≤_}
+use mathlib.Core.Path.{_≡_, refl}
 use mathlib.Core.List.{_++_}
 use native.Mathlib.Omega.{arith}
-use lib.ListN.{length, take, drop, replicate}
+use lib.ListN.{length, drop, replicate}
 use Rattle.table.proofs.Moves.{wipe-turn, wipe-end}
 use borrow.Author.Needs.{needs}
 use Rattle.table.proofs.bytes.wipe.Statement.{statement}

@@ -2,7 +2,6 @@
 use native.Mathlib.Omega.{arith}
 use borrow.Author.Tests.{eq-eqb, ne-eqb}
 use Rattle.record.specs.Record.{lesser}
-use borrow.Author.Needs.{needs}
 use Rattle.table.proofs.page.lesser_of.Statement.{statement}
 use Rattle.table.proofs.page.lesser_of.Tie as tie
 

@@ -1,9 +1,7 @@
 -- One law for each return: a row of another page, one that is not committed, one that is.
 use Prim.Native.Nat.{ℕ, max}
 use mathlib.Core.Path.{refl, sym, ap, _∙_}
-use denote.Ref.{now}
 use borrow.Author.Tests.{eq-eqb, ne-eqb}
-use Rattle.record.specs.Rows.{rowAt}
 use Rattle.record.specs.Record.{lesser}
 use Rattle.table.proofs.Surveys.{seen-other, seen-open, seen-committed}
 use borrow.Author.Needs.{needs}
