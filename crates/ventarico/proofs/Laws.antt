@@ -1,0 +1,44 @@
+-- A door tells what its call says: refused, or done.
+use Prim.Native.Nat.{ℕ}
+use mathlib.Core.Path.{_≡_, refl, sym, ap, _∙_}
+use mathlib.Core.Bool.{Bool, true, false, not}
+use mathlib.Core.List.{List, []}
+use Rattle.rules.specs.declared.Refusal.{Refusal}
+use Rattle.rules.specs.declared.Refusal.the-variants.{NotSound}
+use Rattle.rules.specs.declared.Verdict.{Verdict}
+use Rattle.rules.specs.declared.Verdict.the-variants.{Go, Refuse}
+use Rattle.rules.specs.declared.Answer.the-variants.{Done, NotDue, Refused}
+use Rattle.rules.specs.declared.Reply.{Reply}
+use Rattle.rules.specs.Answers.{replyOf}
+use Rattle.rules.specs.Lent.{Lent}
+use Rattle.rules.specs.Sound.{sound}
+use Rattle.rules.specs.Steps.{Left}
+use Rattle.rules.specs.Calls.{Outcome, refuseIf, checked, doneWith, settled}
+use Rattle.rules.proofs.Verdicts.{refused, passed, holds}
+use Rattle.ventarico.specs.Said.{Told, doneAs}
+
+-- a verdict of no: the refusal's reply, and every byte as it was
+pub told-refused : (v : Verdict) (s : Lent) (buffer : List ℕ) (o : Outcome) (why : Refusal) (r : Reply) → v ≡ Refuse why → r ≡ replyOf (Refused why) → Told (settled v s buffer o) r s
+told-refused v s buffer o why r e h =
+    record {
+      reply = h ∙ sym (ap (λ (w : Verdict). replyOf (settled w s buffer o .answer)) e);
+      lent = sym (ap (λ (w : Verdict). settled w s buffer o .lent) e)
+    }
+
+-- a verdict of go: the step's counts and bytes
+pub told-done : (v : Verdict) (s : Lent) (buffer after : List ℕ) (d : Left) (r : Reply) (t : Lent) → v ≡ Go → r ≡ doneAs (d .reads) (d .writes) (d .logs) → t ≡ d .lent → Told (settled v s buffer (doneWith d after)) r t
+told-done v s buffer after d r t e h l =
+    record {
+      reply = h ∙ sym (ap (λ (w : Verdict). replyOf (settled w s buffer (doneWith d after) .answer)) e);
+      lent = l ∙ sym (ap (λ (w : Verdict). settled w s buffer (doneWith d after) .lent) e)
+    }
+
+-- the check that comes first
+pub unsound : (s : Lent) (v : Verdict) (b : Bool) → b ≡ sound s → not b ≡ true → checked s v ≡ Refuse NotSound
+unsound s v b e h = sym (refused (not (sound s)) NotSound v (ap not (sym e) ∙ h))
+
+pub judged : (s : Lent) (v w : Verdict) (b : Bool) → b ≡ sound s → not b ≡ false → v ≡ w → checked s v ≡ w
+judged s v w b e h k = sym (passed (not (sound s)) NotSound v w (ap not (sym e) ∙ h) (sym k))
+
+pub is-sound : (s : Lent) (b : Bool) → b ≡ sound s → not b ≡ false → sound s ≡ true
+is-sound s b e h = holds (sound s) (ap not (sym e) ∙ h)

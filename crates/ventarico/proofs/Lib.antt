@@ -1,0 +1,2 @@
+-- Laws of the doors.
+pub mod Laws

@@ -1,0 +1,2 @@
+-- What the door's promises cite.
+pub mod Said
