@@ -45,11 +45,11 @@ module _ (marks : List ℕ) (pages first n : ℕ) (log : List ℕ) where
   rest-end i h = ap (λ (l : List (List ℕ)). enteringBy marks pages (first + i) l) (rows-end 14 n log i h)
 
   -- a row that enters, and one that is passed over
-  rest-yes : (i : ℕ) (r : Bool) → i < n → r ≡ entersBy marks pages (first + i) (rowAt 14 log i) → r ≡ true
+  pub rest-yes : (i : ℕ) (r : Bool) → i < n → r ≡ entersBy marks pages (first + i) (rowAt 14 log i) → r ≡ true
       → rest marks pages first n log i ≡ entered (rowAt 14 log i) (first + i) ∷ rest marks pages first n log (i + 1)
   rest-yes i r h e t = rest-more i h ∙ ap (λ (z : Bool). consIf z (entered (rowAt 14 log i) (first + i)) (rest marks pages first n log (i + 1))) (sym e ∙ t)
 
-  rest-no : (i : ℕ) (r : Bool) → i < n → r ≡ entersBy marks pages (first + i) (rowAt 14 log i) → r ≡ false
+  pub rest-no : (i : ℕ) (r : Bool) → i < n → r ≡ entersBy marks pages (first + i) (rowAt 14 log i) → r ≡ false
       → rest marks pages first n log i ≡ rest marks pages first n log (i + 1)
   rest-no i r h e t = rest-more i h ∙ ap (λ (z : Bool). consIf z (entered (rowAt 14 log i) (first + i)) (rest marks pages first n log (i + 1))) (sym e ∙ t)
 
@@ -103,17 +103,17 @@ well-page size pages r e = go (ltb (pageOf r) pages) refl
 
 pub readable : (s : Lent) → Restartable s → Readable (s .durable .fixed) (s .durable .marks) (s .durable .log)
 readable s (sized, span, last, well) =
-    record
-      { fixed-length = sized .fixed
-      ; marks-length = sized .marks
-      ; pages-most = sized .pages
-      ; frames-most = sized .frames
-      ; last-least = last
-      ; logged = record
-          { within = omega (arith, sized .log)
-          ; inside = λ i h. well-page (sizeOf s) (pagesOf s) (rowAt 14 (s .durable .log) i) (inside i h)
-          }
-      }
+    record {
+      fixed-length = sized .fixed;
+      marks-length = sized .marks;
+      pages-most = sized .pages;
+      frames-most = sized .frames;
+      last-least = last;
+      logged = record {
+        within = omega (arith, sized .log);
+        inside = λ i h. well-page (sizeOf s) (pagesOf s) (rowAt 14 (s .durable .log) i) (inside i h);
+      };
+    }
   where
     inside : (i : ℕ) → i < loggedOf s → wellFormed (sizeOf s) (pagesOf s) (rowAt 14 (s .durable .log) i) ≡ true
     inside i h =

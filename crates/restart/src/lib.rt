@@ -7,13 +7,10 @@ ghost use lib.ListN.{length, drop, set};
 ghost use Rattle.word.specs.Word.{num, put};
 ghost use Rattle.record.specs.Part.{withPart};
 ghost use Rattle.record.specs.Rows.{rowAt, rows, joined};
-ghost use Rattle.record.specs.Record.{pageOf, entered, wellFormed};
-ghost use Rattle.rules.specs.Lent.{lentOf, entryAt, sizeOf, pagesOf, roomOf, spanOf, lastOf, loggedOf, logOf};
-ghost use Rattle.rules.specs.Sound.{every};
-ghost use Rattle.rules.specs.Shape.{Sized};
+ghost use Rattle.record.specs.Record.{pageOf, entered};
+ghost use Rattle.rules.specs.Lent.{lentOf, entryAt};
 ghost use Rattle.rules.specs.Steps.{enteringAll, evictedAll, restarted};
-ghost use Rattle.restart.specs.Enter.{entersBy, enteringBy, firstBy, allBy, Logged, Readable, Restartable};
-
+ghost use Rattle.restart.specs.Enter.{entersBy, enteringBy, firstBy, allBy, Logged, Readable, Restartable, Restarts};
 use number::LogNo;
 
 // Log row i, numbered k, enters: it is above its page's stamp and, at or below the checkpoint number, its page has a dirty number.
@@ -67,9 +64,106 @@ fn count_all(fixed: &[u8], marks: &[u8], log: &[u8]) -> usize
 }
 
 // How many log records a restart enters into the online table.
-pub fn count_entering(fixed: &[u8], marks: &[u8], log: &[u8], stored: &[u8], tables: &[u8], online: &[u8], pool: &[u8]) -> usize
+pub fn count_entering(
+    fixed: &[u8],
+    marks: &[u8],
+    log: &[u8],
+    stored: &[u8],
+    tables: &[u8],
+    online: &[u8],
+    pool: &[u8],
+) -> usize
     requires { ⌜ Restartable (lentOf (now fixed) (now marks) (now log) (now stored) (now tables) (now online) (now pool)) ⌝ }
     ensures { λ r. ⌜ r ≡ length (enteringAll (lentOf (now (fixed .entry)) (now (marks .entry)) (now (log .entry)) (now (stored .entry)) (now (tables .entry)) (now (online .entry)) (now (pool .entry)))) ⌝ }
 {
     count_all(fixed, marks, log)
+}
+
+// Log row i, numbered k: it enters as online row m and its page becomes evicted, or it is passed over. The online rows then.
+fn enter_one(
+    marks: &[u8],
+    log: &[u8],
+    i: usize,
+    k: u64,
+    pages: usize,
+    frames: usize,
+    tables: &mut [u8],
+    online: &mut [u8],
+    m: usize,
+) -> usize
+    requires { ⌜ (length (now marks) ≡ 12 + 8 * pages) × (pages ≤ 1024) × (i * 14 + 14 ≤ length (now log)) × (pageOf (rowAt 14 (now log) i) < pages) × (frames ≤ 64) × (35 + frames + pages ≤ length (now tables)) × (entersBy (now marks) pages k (rowAt 14 (now log) i) ≡ true → m * 19 + 19 ≤ length (now online)) ⌝ }
+    ensures { λ r. ⌜ (r ≡ cond (entersBy (now (marks .entry)) pages k (rowAt 14 (now (log .entry)) i)) (m + 1) m) × (now (tables .exit) ≡ cond (entersBy (now (marks .entry)) pages k (rowAt 14 (now (log .entry)) i)) (set (now (tables .entry)) (entryAt frames (pageOf (rowAt 14 (now (log .entry)) i))) 1) (now (tables .entry))) × (now (online .exit) ≡ cond (entersBy (now (marks .entry)) pages k (rowAt 14 (now (log .entry)) i)) (withPart (m * 19) 19 (now (online .entry)) (entered (rowAt 14 (now (log .entry)) i) k)) (now (online .entry))) ⌝ }
+{
+    if !enters_row(marks, log, i, k, pages) {
+        return m;
+    }
+    let p = record::page_of(log, 14, i);
+    let page = p.0;
+    tables[35 + frames + page] = 1;
+    table::enter(online, m, log, i, LogNo(k));
+    m + 1
+}
+
+// The rows of n log rows that enter, in order, over the first online rows; how many they are.
+fn enter_rows(
+    marks: &[u8],
+    log: &[u8],
+    n: usize,
+    first: u64,
+    pages: usize,
+    frames: usize,
+    tables: &mut [u8],
+    online: &mut [u8],
+) -> usize
+    requires { ⌜ (length (now marks) ≡ 12 + 8 * pages) × (pages ≤ 1024) × (first + n < 2 ^ 63) × Logged (now log) n pages × (frames ≤ 64) × (35 + frames + pages ≤ length (now tables)) × (length (enteringBy (now marks) pages first (rows 14 n (now log) 0)) * 19 ≤ length (now online)) ⌝ }
+    ensures { λ r. ⌜ (r ≡ length (enteringBy (now (marks .entry)) pages first (rows 14 n (now (log .entry)) 0))) × (now (tables .exit) ≡ evictedAll frames (enteringBy (now (marks .entry)) pages first (rows 14 n (now (log .entry)) 0)) (now (tables .entry))) × (now (online .exit) ≡ joined (enteringBy (now (marks .entry)) pages first (rows 14 n (now (log .entry)) 0)) ++ drop (length (enteringBy (now (marks .entry)) pages first (rows 14 n (now (log .entry)) 0)) * 19) (now (online .entry))) ⌝ }
+{
+    let mut m = 0;
+    let mut i = 0;
+    while i < n {
+        m = enter_one(
+            marks,
+            log,
+            i,
+            first + i as u64,
+            pages,
+            frames,
+            tables,
+            online,
+            m,
+        );
+        i += 1;
+    }
+    m
+}
+
+// The same over the whole log, with the count of online rows.
+fn enter_all(fixed: &[u8], marks: &[u8], log: &[u8], tables: &mut [u8], online: &mut [u8])
+    requires { ⌜ Readable (now fixed) (now marks) (now log) × (35 + num 4 (now fixed) 8 + num 4 (now fixed) 4 ≤ length (now tables)) × (length (allBy (now fixed) (now marks) (now log)) * 19 ≤ length (now online)) ⌝ }
+    ensures { λ r. ⌜ (now (tables .exit) ≡ put 2 (evictedAll (num 4 (now (fixed .entry)) 8) (allBy (now (fixed .entry)) (now (marks .entry)) (now (log .entry))) (now (tables .entry))) 0 (length (allBy (now (fixed .entry)) (now (marks .entry)) (now (log .entry))))) × (now (online .exit) ≡ joined (allBy (now (fixed .entry)) (now (marks .entry)) (now (log .entry))) ++ drop (length (allBy (now (fixed .entry)) (now (marks .entry)) (now (log .entry))) * 19) (now (online .entry))) ⌝ }
+{
+    let pages = word::load(fixed, 4, 4) as usize;
+    let frames = word::load(fixed, 8, 4) as usize;
+    let n = word::load(marks, 8, 4) as usize;
+    let first = first_of(marks);
+    let m = enter_rows(marks, log, n, first, pages, frames, tables, online);
+    word::store(tables, 0, 2, m as u64);
+}
+
+// The lost part made anew: empty but for the log records that enter.
+pub fn restart(
+    fixed: &[u8],
+    marks: &[u8],
+    log: &[u8],
+    stored: &[u8],
+    tables: &mut [u8],
+    online: &mut [u8],
+    pool: &[u8],
+)
+    requires { ⌜ Restarts (lentOf (now fixed) (now marks) (now log) (now stored) (now tables) (now online) (now pool)) ⌝ }
+    ensures { λ r. ⌜ lentOf (now (fixed .entry)) (now (marks .entry)) (now (log .entry)) (now (stored .entry)) (now (tables .exit)) (now (online .exit)) (now (pool .entry)) ≡ restarted (lentOf (now (fixed .entry)) (now (marks .entry)) (now (log .entry)) (now (stored .entry)) (now (tables .entry)) (now (online .entry)) (now (pool .entry))) .lent ⌝ }
+{
+    format::clear(tables);
+    format::clear(online);
+    enter_all(fixed, marks, log, tables, online);
 }

@@ -9,30 +9,20 @@ use denote.Ref.{now}
 use Rattle.restart.proofs.Laws.{logged-read, all-read}
 use Rattle.restart.proofs.count_all.Statement.{statement}
 use Rattle.restart.proofs.count_all.Tie as tie
-use Rattle.restart.proofs.count_all.Reads as reads
-use Rattle.restart.proofs.count_all.Lts as lts
-use Rattle.restart.proofs.count_rows.Reads as count-rows-reads
-use Rattle.restart.proofs.first_of.Reads as first-of-reads
-use Rattle.word.proofs.load.Reads as load-reads
 
--- src/lib.rt:63:17
 load-requires : tie.Need-load-requires
 load-requires c κs = search needs
 
--- src/lib.rt:64:13
 load-requires-2 : tie.Need-load-requires-2
 load-requires-2 c κs = search needs
 
--- src/lib.rt:65:9
 first-of-requires : tie.Need-first-of-requires
 first-of-requires c κs = search needs
 
--- src/lib.rt:66:5
 count-rows-requires : tie.Need-count-rows-requires
 count-rows-requires c κs =
     (search needs, search needs, search needs, logged-read (now (c .before .before .before .before .before .before .args .log)) _ _ _ _ (c .before .load2 .ensures .0) (c .before .before .load .ensures .0) (c .before .before .before .before .before .before .pre .logged))
 
--- src/lib.rt:59:1
 returns : tie.Need-returns
 returns c =
     let a = c .before .before .before .before .before .before .before .args in

@@ -8,17 +8,12 @@ use Rattle.rules.specs.Lent.{lentOf}
 use Rattle.restart.proofs.Laws.{readable, all-by}
 use Rattle.restart.proofs.count_entering.Statement.{statement}
 use Rattle.restart.proofs.count_entering.Tie as tie
-use Rattle.restart.proofs.count_entering.Reads as reads
-use Rattle.restart.proofs.count_entering.Lts as lts
-use Rattle.restart.proofs.count_all.Reads as count-all-reads
 
--- src/lib.rt:74:5
 count-all-requires : tie.Need-count-all-requires
 count-all-requires c κs =
     let a = c .before .before .before .before .before .before .before .args in
     readable (lentOf (now (a .fixed)) (now (a .marks)) (now (a .log)) (now (a .stored)) (now (a .tables)) (now (a .online)) (now (a .pool))) (c .before .before .before .before .before .before .before .pre)
 
--- src/lib.rt:70:1
 returns : tie.Need-returns
 returns c =
     let a = c .before .before .before .before .before .before .before .before .args in

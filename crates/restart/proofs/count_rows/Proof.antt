@@ -12,9 +12,6 @@ use Rattle.restart.specs.Enter.{enteringBy}
 use Rattle.restart.proofs.Laws.{rest, rest-start, count-start, count-more, count-same, count-done}
 use Rattle.restart.proofs.count_rows.Statement.{statement}
 use Rattle.restart.proofs.count_rows.Tie as tie
-use Rattle.restart.proofs.count_rows.Reads as reads
-use Rattle.restart.proofs.count_rows.Lts as lts
-use Rattle.restart.proofs.enters_row.Reads as enters-row-reads
 
 abbrev Inv-loop : tie.InvT-loop
 Inv-loop marks log n first pages m₀ i₀ m i =
@@ -23,34 +20,27 @@ Inv-loop marks log n first pages m₀ i₀ m i =
 abbrev μ-loop : tie.MeasureT-loop
 μ-loop marks log n first pages m₀ i₀ m i = n - i
 
--- src/lib.rt:39:5
 loop-holds : tie.Need-loop-holds Inv-loop μ-loop
 loop-holds c = let a = c .before .before .args in (search needs, search needs, count-start (now (a .marks)) (a .pages) (a .first) (a .n) (now (a .log)))
 
--- src/lib.rt:40:38
 add-enters-row : tie.Need-add-enters-row Inv-loop μ-loop
 add-enters-row c = search needs
 
--- src/lib.rt:40:12
 enters-row-requires : tie.Need-enters-row-requires Inv-loop μ-loop
 enters-row-requires c κs =
     let a = c .before .before .before .before .args in
     let p = c .before .before .before .before .pre in
     (p .0, p .1, omega (arith, p .3 .within), p .3 .inside (c .before .loop .i) (c .loop-test .taken))
 
--- src/lib.rt:41:13
 add-m : tie.Need-add-m Inv-loop μ-loop
 add-m c = search needs
 
--- src/lib.rt:43:9
 add-i : tie.Need-add-i Inv-loop μ-loop
 add-i c = search needs
 
--- src/lib.rt:39:5
 loop-less : tie.Need-loop-less Inv-loop μ-loop
 loop-less c = search needs
 
--- src/lib.rt:39:5
 loop-again : tie.Need-loop-again Inv-loop μ-loop
 loop-again c =
     let a = c .before .before .before .before .before .before .args in
@@ -62,7 +52,6 @@ loop-again c =
     (λ w. (omega arith, omega arith, count-same (now (a .marks)) (a .pages) (a .first) (a .n) (now (a .log)) (l .i) (l .m) _ _ _ h e (w .0 .left) (w .1) (l .inv .2)))
     (c .if1 .came)
 
--- src/lib.rt:33:1
 returns : tie.Need-returns Inv-loop μ-loop
 returns c =
     let a = c .before .before .before .before .args in
