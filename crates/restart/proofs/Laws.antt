@@ -1,18 +1,17 @@
 -- Laws of the rows that enter: the test, a turn of a loop over the log, and the same over the lent tables.
-use Prim.Native.Nat.{ℕ, zero, suc, _+_, _*_, _-_, _≤_, _<_}
+use Prim.Native.Nat.{ℕ, zero, suc, _+_, _-_, _≤_, _<_}
 use native.Mathlib.Omega.{arith}
 use mathlib.Core.Path.{_≡_, refl, sym, ap, _∙_}
-use mathlib.Core.Bool.{Bool, true, false, cond, not, _&&_}
-use mathlib.Core.List.{List, [], _∷_, _++_}
+use mathlib.Core.Bool.{Bool, true, false, not, _&&_}
+use mathlib.Core.List.{List, [], _∷_}
 use lib.ListN.{length}
 use lib.Dec.{eqb, leb, ltb}
 use borrow.Author.Tests.{ltb-true}
 use Rattle.word.specs.Word.{num}
 use Rattle.record.specs.Rows.{rowAt, rows, consIf}
 use Rattle.record.specs.Record.{pageOf, entered, wellFormed}
-use Rattle.rules.specs.Lent.{Lent, sizeOf, pagesOf, framesOf, roomOf, spanOf, lastOf, loggedOf, logOf, firstOf, stampAt, dirtyAt}
+use Rattle.rules.specs.Lent.{Lent, sizeOf, pagesOf, loggedOf, logOf, firstOf, stampAt, dirtyAt}
 use Rattle.rules.specs.Sound.{every}
-use Rattle.rules.specs.Shape.{Sized}
 use Rattle.rules.specs.Steps.{entering, enteringAll}
 use Rattle.table.proofs.Laws.{rows-more, rows-end, rows-start}
 use Rattle.restart.specs.Enter.{entersBy, enteringBy, firstBy, allBy, Logged, Readable, Restartable}

@@ -13,6 +13,7 @@ use Rattle.rules.specs.Sound.{every}
 use Rattle.rules.specs.Shape.{Sized}
 use Rattle.rules.specs.Steps.{enteringAll}
 
+-- `enters` and `entering` of the rules, by what they read
 abbrev pub entersBy : List ℕ → ℕ → ℕ → List ℕ → Bool
 entersBy marks pages k b = not (leb k (num 4 marks 4) && eqb (num 4 marks (dirtyAt pages (pageOf b))) 0) && not (leb k (num 4 marks (stampAt (pageOf b))))
 

@@ -52,7 +52,7 @@ fn first_of(marks: &[u8]) -> u64
     last - n + 1
 }
 
-// The same over the whole log.
+// How many rows of the whole log enter.
 fn count_all(fixed: &[u8], marks: &[u8], log: &[u8]) -> usize
     requires { ⌜ Readable (now fixed) (now marks) (now log) ⌝ }
     ensures { λ r. ⌜ r ≡ length (allBy (now (fixed .entry)) (now (marks .entry)) (now (log .entry))) ⌝ }
@@ -79,7 +79,7 @@ pub fn count_entering(
     count_all(fixed, marks, log)
 }
 
-// Log row i, numbered k: it enters as online row m and its page becomes evicted, or it is passed over. The online rows then.
+// Log row i, numbered k: it enters as online row m and its page becomes evicted, or it is passed over. The number of online rows then.
 fn enter_one(
     marks: &[u8],
     log: &[u8],
@@ -137,7 +137,7 @@ fn enter_rows(
     m
 }
 
-// The same over the whole log, with the count of online rows.
+// All of the log that enters, and the count of online rows.
 fn enter_all(fixed: &[u8], marks: &[u8], log: &[u8], tables: &mut [u8], online: &mut [u8])
     requires { ⌜ Readable (now fixed) (now marks) (now log) × (35 + num 4 (now fixed) 8 + num 4 (now fixed) 4 ≤ length (now tables)) × (length (allBy (now fixed) (now marks) (now log)) * 19 ≤ length (now online)) ⌝ }
     ensures { λ r. ⌜ (now (tables .exit) ≡ put 2 (evictedAll (num 4 (now (fixed .entry)) 8) (allBy (now (fixed .entry)) (now (marks .entry)) (now (log .entry))) (now (tables .entry))) 0 (length (allBy (now (fixed .entry)) (now (marks .entry)) (now (log .entry))))) × (now (online .exit) ≡ joined (allBy (now (fixed .entry)) (now (marks .entry)) (now (log .entry))) ++ drop (length (allBy (now (fixed .entry)) (now (marks .entry)) (now (log .entry))) * 19) (now (online .entry))) ⌝ }

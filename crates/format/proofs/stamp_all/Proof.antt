@@ -1,6 +1,5 @@
 -- The stamps still to be written, written to the marks as they are, make what all of them make of the marks at entry.
 use Prim.Native.Nat.{_-_, _≤_}
-use native.Mathlib.Omega.{arith}
 use mathlib.Core.Path.{_≡_, refl}
 use lib.ListN.{length}
 use borrow.Author.Needs.{needs}

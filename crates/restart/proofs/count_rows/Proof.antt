@@ -1,15 +1,14 @@
 -- The rows counted so far and those still to come are all.
 use Prim.Native.Nat.{_+_, _-_, _≤_}
 use native.Mathlib.Omega.{arith}
-use mathlib.Core.Path.{_≡_, ap}
-use mathlib.Core.List.{List}
+use mathlib.Core.Path.{_≡_}
 use mathlib.Core.Logic.{⊎-elim}
 use lib.ListN.{length}
 use borrow.Author.Needs.{needs}
 use denote.Ref.{now}
 use Rattle.record.specs.Rows.{rows}
 use Rattle.restart.specs.Enter.{enteringBy}
-use Rattle.restart.proofs.Laws.{rest, rest-start, count-start, count-more, count-same, count-done}
+use Rattle.restart.proofs.Laws.{rest, count-start, count-more, count-same, count-done}
 use Rattle.restart.proofs.count_rows.Statement.{statement}
 use Rattle.restart.proofs.count_rows.Tie as tie
 
@@ -28,7 +27,6 @@ add-enters-row c = search needs
 
 enters-row-requires : tie.Need-enters-row-requires Inv-loop μ-loop
 enters-row-requires c κs =
-    let a = c .before .before .before .before .args in
     let p = c .before .before .before .before .pre in
     (p .0, p .1, omega (arith, p .3 .within), p .3 .inside (c .before .loop .i) (c .loop-test .taken))
 
