@@ -1,0 +1,80 @@
+// A fresh store: every table written whole. Stored pages and frames stay as they are.
+ghost use mathlib.Core.Path.{_≡_};
+ghost use Prim.Native.Nat.{_+_, _*_, _≤_};
+ghost use lib.ListN.{length, replicate};
+ghost use Rattle.word.specs.Word.{put};
+ghost use Rattle.rules.specs.Lent.{lentOf};
+ghost use Rattle.rules.specs.Steps.{stamped, formatted};
+
+// Zeros, all of it.
+pub fn clear(s: &mut [u8])
+    ensures { λ r. ⌜ now (s .exit) ≡ replicate (length (now (s .entry))) 0 ⌝ }
+{
+    let mut i = 0;
+    while i < s.len() {
+        s[i] = 0;
+        i += 1;
+    }
+}
+
+// The five parameters.
+fn write_fixed(fixed: &mut [u8], size: u64, pages: u64, frames: u64, room: u64, span: u64)
+    requires { ⌜ length (now fixed) ≡ 20 ⌝ }
+    ensures { λ r. ⌜ now (fixed .exit) ≡ put 4 (put 4 (put 4 (put 4 (put 4 (replicate 20 0) 0 size) 4 pages) 8 frames) 12 room) 16 span ⌝ }
+{
+    clear(fixed);
+    word::store(fixed, 0, 4, size);
+    word::store(fixed, 4, 4, pages);
+    word::store(fixed, 8, 4, frames);
+    word::store(fixed, 12, 4, room);
+    word::store(fixed, 16, 4, span);
+}
+
+// The stamps of all pages.
+fn stamp_all(marks: &mut [u8], pages: usize, last: u64)
+    requires { ⌜ (length (now marks) ≡ 12 + 8 * pages) × (pages ≤ 1024) ⌝ }
+    ensures { λ r. ⌜ now (marks .exit) ≡ stamped pages 0 last (now (marks .entry)) ⌝ }
+{
+    let mut p = 0;
+    while p < pages {
+        word::store(marks, 12 + 4 * p, 4, last);
+        p += 1;
+    }
+}
+
+// L, K and the stamps: the given last number. No log record, no dirty number.
+fn write_marks(marks: &mut [u8], pages: u64, last: u64)
+    requires { ⌜ (length (now marks) ≡ 12 + 8 * pages) × (pages ≤ 1024) ⌝ }
+    ensures { λ r. ⌜ now (marks .exit) ≡ stamped pages 0 last (put 4 (put 4 (replicate (length (now (marks .entry))) 0) 0 last) 4 last) ⌝ }
+{
+    clear(marks);
+    word::store(marks, 0, 4, last);
+    word::store(marks, 4, 4, last);
+    stamp_all(marks, pages as usize, last);
+}
+
+// All of it: stored pages and the pool are only named.
+pub fn format(
+    fixed: &mut [u8],
+    marks: &mut [u8],
+    log: &mut [u8],
+    stored: &[u8],
+    tables: &mut [u8],
+    online: &mut [u8],
+    pool: &[u8],
+    size: u64,
+    pages: u64,
+    frames: u64,
+    room: u64,
+    span: u64,
+    last: u64,
+)
+    requires { ⌜ (length (now fixed) ≡ 20) × (length (now marks) ≡ 12 + 8 * pages) × (pages ≤ 1024) ⌝ }
+    ensures { λ r. ⌜ lentOf (now (fixed .exit)) (now (marks .exit)) (now (log .exit)) (now (stored .entry)) (now (tables .exit)) (now (online .exit)) (now (pool .entry)) ≡ formatted (lentOf (now (fixed .entry)) (now (marks .entry)) (now (log .entry)) (now (stored .entry)) (now (tables .entry)) (now (online .entry)) (now (pool .entry))) size pages frames room span last .lent ⌝ }
+{
+    write_fixed(fixed, size, pages, frames, room, span);
+    write_marks(marks, pages, last);
+    clear(log);
+    clear(tables);
+    clear(online);
+}

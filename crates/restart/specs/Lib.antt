@@ -1,0 +1,2 @@
+-- What the contracts of inner functions of `restart` cite.
+pub mod Enter

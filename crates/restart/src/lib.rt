@@ -1,0 +1,169 @@
+// Restart: the lost part made anew from the log. Of the durable part nothing changes, and no frame byte.
+ghost use mathlib.Core.Path.{_≡_};
+ghost use mathlib.Core.Bool.{true, cond};
+ghost use mathlib.Core.List.{_++_};
+ghost use Prim.Native.Nat.{_+_, _*_, _-_, _^_, _≤_, _<_};
+ghost use lib.ListN.{length, drop, set};
+ghost use Rattle.word.specs.Word.{num, put};
+ghost use Rattle.record.specs.Part.{withPart};
+ghost use Rattle.record.specs.Rows.{rowAt, rows, joined};
+ghost use Rattle.record.specs.Record.{pageOf, entered};
+ghost use Rattle.rules.specs.Lent.{lentOf, entryAt};
+ghost use Rattle.rules.specs.Steps.{enteringAll, evictedAll, restarted};
+ghost use Rattle.restart.specs.Enter.{entersBy, enteringBy, firstBy, allBy, Logged, Readable, Restartable, Restarts};
+use number::LogNo;
+
+// Log row i, numbered k, enters: it is above its page's stamp and, at or below the checkpoint number, its page has a dirty number.
+fn enters_row(marks: &[u8], log: &[u8], i: usize, k: u64, pages: usize) -> bool
+    requires { ⌜ (length (now marks) ≡ 12 + 8 * pages) × (pages ≤ 1024) × (i * 14 + 14 ≤ length (now log)) × (pageOf (rowAt 14 (now log) i) < pages) ⌝ }
+    ensures { λ r. ⌜ r ≡ entersBy (now (marks .entry)) pages k (rowAt 14 (now (log .entry)) i) ⌝ }
+{
+    let p = record::page_of(log, 14, i);
+    let page = p.0;
+    let closed = word::load(marks, 4, 4);
+    let dirty = word::load(marks, 12 + 4 * pages + 4 * page, 4);
+    let stamp = word::load(marks, 12 + 4 * page, 4);
+    !((k <= closed) & (dirty == 0)) & !(k <= stamp)
+}
+
+// How many of n log rows enter, numbered from `first` on.
+fn count_rows(marks: &[u8], log: &[u8], n: usize, first: u64, pages: usize) -> usize
+    requires { ⌜ (length (now marks) ≡ 12 + 8 * pages) × (pages ≤ 1024) × (first + n < 2 ^ 63) × Logged (now log) n pages ⌝ }
+    ensures { λ r. ⌜ r ≡ length (enteringBy (now (marks .entry)) pages first (rows 14 n (now (log .entry)) 0)) ⌝ }
+{
+    let mut m = 0;
+    let mut i = 0;
+    while i < n {
+        if enters_row(marks, log, i, first + i as u64, pages) {
+            m += 1;
+        }
+        i += 1;
+    }
+    m
+}
+
+// The number of the first log record.
+fn first_of(marks: &[u8]) -> u64
+    requires { ⌜ (12 ≤ length (now marks)) × (num 4 (now marks) 8 ≤ num 4 (now marks) 0) ⌝ }
+    ensures { λ r. ⌜ (r ≡ firstBy (now (marks .entry))) × (r < 2 ^ 33) ⌝ }
+{
+    let last = word::load(marks, 0, 4);
+    let n = word::load(marks, 8, 4);
+    last - n + 1
+}
+
+// How many rows of the whole log enter.
+fn count_all(fixed: &[u8], marks: &[u8], log: &[u8]) -> usize
+    requires { ⌜ Readable (now fixed) (now marks) (now log) ⌝ }
+    ensures { λ r. ⌜ r ≡ length (allBy (now (fixed .entry)) (now (marks .entry)) (now (log .entry))) ⌝ }
+{
+    let pages = word::load(fixed, 4, 4) as usize;
+    let n = word::load(marks, 8, 4) as usize;
+    let first = first_of(marks);
+    count_rows(marks, log, n, first, pages)
+}
+
+// How many log records a restart enters into the online table.
+pub fn count_entering(
+    fixed: &[u8],
+    marks: &[u8],
+    log: &[u8],
+    stored: &[u8],
+    tables: &[u8],
+    online: &[u8],
+    pool: &[u8],
+) -> usize
+    requires { ⌜ Restartable (lentOf (now fixed) (now marks) (now log) (now stored) (now tables) (now online) (now pool)) ⌝ }
+    ensures { λ r. ⌜ r ≡ length (enteringAll (lentOf (now (fixed .entry)) (now (marks .entry)) (now (log .entry)) (now (stored .entry)) (now (tables .entry)) (now (online .entry)) (now (pool .entry)))) ⌝ }
+{
+    count_all(fixed, marks, log)
+}
+
+// Log row i, numbered k: it enters as online row m and its page becomes evicted, or it is passed over. The number of online rows then.
+fn enter_one(
+    marks: &[u8],
+    log: &[u8],
+    i: usize,
+    k: u64,
+    pages: usize,
+    frames: usize,
+    tables: &mut [u8],
+    online: &mut [u8],
+    m: usize,
+) -> usize
+    requires { ⌜ (length (now marks) ≡ 12 + 8 * pages) × (pages ≤ 1024) × (i * 14 + 14 ≤ length (now log)) × (pageOf (rowAt 14 (now log) i) < pages) × (frames ≤ 64) × (35 + frames + pages ≤ length (now tables)) × (entersBy (now marks) pages k (rowAt 14 (now log) i) ≡ true → m * 19 + 19 ≤ length (now online)) ⌝ }
+    ensures { λ r. ⌜ (r ≡ cond (entersBy (now (marks .entry)) pages k (rowAt 14 (now (log .entry)) i)) (m + 1) m) × (now (tables .exit) ≡ cond (entersBy (now (marks .entry)) pages k (rowAt 14 (now (log .entry)) i)) (set (now (tables .entry)) (entryAt frames (pageOf (rowAt 14 (now (log .entry)) i))) 1) (now (tables .entry))) × (now (online .exit) ≡ cond (entersBy (now (marks .entry)) pages k (rowAt 14 (now (log .entry)) i)) (withPart (m * 19) 19 (now (online .entry)) (entered (rowAt 14 (now (log .entry)) i) k)) (now (online .entry))) ⌝ }
+{
+    if !enters_row(marks, log, i, k, pages) {
+        return m;
+    }
+    let p = record::page_of(log, 14, i);
+    let page = p.0;
+    tables[35 + frames + page] = 1;
+    table::enter(online, m, log, i, LogNo(k));
+    m + 1
+}
+
+// The rows of n log rows that enter, in order, over the first online rows; how many they are.
+fn enter_rows(
+    marks: &[u8],
+    log: &[u8],
+    n: usize,
+    first: u64,
+    pages: usize,
+    frames: usize,
+    tables: &mut [u8],
+    online: &mut [u8],
+) -> usize
+    requires { ⌜ (length (now marks) ≡ 12 + 8 * pages) × (pages ≤ 1024) × (first + n < 2 ^ 63) × Logged (now log) n pages × (frames ≤ 64) × (35 + frames + pages ≤ length (now tables)) × (length (enteringBy (now marks) pages first (rows 14 n (now log) 0)) * 19 ≤ length (now online)) ⌝ }
+    ensures { λ r. ⌜ (r ≡ length (enteringBy (now (marks .entry)) pages first (rows 14 n (now (log .entry)) 0))) × (now (tables .exit) ≡ evictedAll frames (enteringBy (now (marks .entry)) pages first (rows 14 n (now (log .entry)) 0)) (now (tables .entry))) × (now (online .exit) ≡ joined (enteringBy (now (marks .entry)) pages first (rows 14 n (now (log .entry)) 0)) ++ drop (length (enteringBy (now (marks .entry)) pages first (rows 14 n (now (log .entry)) 0)) * 19) (now (online .entry))) ⌝ }
+{
+    let mut m = 0;
+    let mut i = 0;
+    while i < n {
+        m = enter_one(
+            marks,
+            log,
+            i,
+            first + i as u64,
+            pages,
+            frames,
+            tables,
+            online,
+            m,
+        );
+        i += 1;
+    }
+    m
+}
+
+// All of the log that enters, and the count of online rows.
+fn enter_all(fixed: &[u8], marks: &[u8], log: &[u8], tables: &mut [u8], online: &mut [u8])
+    requires { ⌜ Readable (now fixed) (now marks) (now log) × (35 + num 4 (now fixed) 8 + num 4 (now fixed) 4 ≤ length (now tables)) × (length (allBy (now fixed) (now marks) (now log)) * 19 ≤ length (now online)) ⌝ }
+    ensures { λ r. ⌜ (now (tables .exit) ≡ put 2 (evictedAll (num 4 (now (fixed .entry)) 8) (allBy (now (fixed .entry)) (now (marks .entry)) (now (log .entry))) (now (tables .entry))) 0 (length (allBy (now (fixed .entry)) (now (marks .entry)) (now (log .entry))))) × (now (online .exit) ≡ joined (allBy (now (fixed .entry)) (now (marks .entry)) (now (log .entry))) ++ drop (length (allBy (now (fixed .entry)) (now (marks .entry)) (now (log .entry))) * 19) (now (online .entry))) ⌝ }
+{
+    let pages = word::load(fixed, 4, 4) as usize;
+    let frames = word::load(fixed, 8, 4) as usize;
+    let n = word::load(marks, 8, 4) as usize;
+    let first = first_of(marks);
+    let m = enter_rows(marks, log, n, first, pages, frames, tables, online);
+    word::store(tables, 0, 2, m as u64);
+}
+
+// The lost part made anew: empty but for the log records that enter.
+pub fn restart(
+    fixed: &[u8],
+    marks: &[u8],
+    log: &[u8],
+    stored: &[u8],
+    tables: &mut [u8],
+    online: &mut [u8],
+    pool: &[u8],
+)
+    requires { ⌜ Restarts (lentOf (now fixed) (now marks) (now log) (now stored) (now tables) (now online) (now pool)) ⌝ }
+    ensures { λ r. ⌜ lentOf (now (fixed .entry)) (now (marks .entry)) (now (log .entry)) (now (stored .entry)) (now (tables .exit)) (now (online .exit)) (now (pool .entry)) ≡ restarted (lentOf (now (fixed .entry)) (now (marks .entry)) (now (log .entry)) (now (stored .entry)) (now (tables .entry)) (now (online .entry)) (now (pool .entry))) .lent ⌝ }
+{
+    format::clear(tables);
+    format::clear(online);
+    enter_all(fixed, marks, log, tables, online);
+}
