@@ -5,7 +5,6 @@ use lib.ListN.{length, getD, take, replicate}
 use Rattle.rules.specs.declared.Reply.{Reply}
 use Rattle.rules.specs.Answers.{replyOf}
 use Rattle.rules.specs.Lent.{Lent, lentOf, sizeOf, lastOf, closedOf, firstOf, loggedOf, stampOf, dirtyOf, entryOf, orderOf, onlineOf, liveOf}
-
 use Rattle.word.specs.Word.{num, put}
 use Rattle.record.specs.Rows.{rows, joined, table, keep, any}
 use Rattle.record.specs.Record.{numberOf, isLength, wellFormed, changed, change, apply, applied, rowOf, numbered, entered, numberRows, lesser, smallest, greatest, shareByte}

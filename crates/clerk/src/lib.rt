@@ -22,17 +22,29 @@ impl Clerk {
         ensures { λ r. ⌜ r ≡ begins self x ⌝ }
     {
         if x < 1 {
-            return Ruled { code: 2, clerk: self };
+            return Ruled {
+                code: 2,
+                clerk: self,
+            };
         }
         if 32 < x {
-            return Ruled { code: 2, clerk: self };
+            return Ruled {
+                code: 2,
+                clerk: self,
+            };
         }
         let at = (x - 1) as usize;
         if self.live[at] == 1 {
-            return Ruled { code: 5, clerk: self };
+            return Ruled {
+                code: 5,
+                clerk: self,
+            };
         }
         self.live[at] = 1;
-        Ruled { code: 0, clerk: self }
+        Ruled {
+            code: 0,
+            clerk: self,
+        }
     }
 
     // Ends the transaction.
@@ -40,17 +52,29 @@ impl Clerk {
         ensures { λ r. ⌜ r ≡ aborts self x ⌝ }
     {
         if x < 1 {
-            return Ruled { code: 2, clerk: self };
+            return Ruled {
+                code: 2,
+                clerk: self,
+            };
         }
         if 32 < x {
-            return Ruled { code: 2, clerk: self };
+            return Ruled {
+                code: 2,
+                clerk: self,
+            };
         }
         let at = (x - 1) as usize;
         if self.live[at] != 1 {
-            return Ruled { code: 4, clerk: self };
+            return Ruled {
+                code: 4,
+                clerk: self,
+            };
         }
         self.live[at] = 0;
-        Ruled { code: 0, clerk: self }
+        Ruled {
+            code: 0,
+            clerk: self,
+        }
     }
 
     // Ends the transaction and takes k log numbers for its records.
@@ -58,21 +82,36 @@ impl Clerk {
         ensures { λ r. ⌜ r ≡ commits self x k ⌝ }
     {
         if x < 1 {
-            return Ruled { code: 2, clerk: self };
+            return Ruled {
+                code: 2,
+                clerk: self,
+            };
         }
         if 32 < x {
-            return Ruled { code: 2, clerk: self };
+            return Ruled {
+                code: 2,
+                clerk: self,
+            };
         }
         let at = (x - 1) as usize;
         if self.live[at] != 1 {
-            return Ruled { code: 4, clerk: self };
+            return Ruled {
+                code: 4,
+                clerk: self,
+            };
         }
         if 4294967295 - self.last < k {
-            return Ruled { code: 9, clerk: self };
+            return Ruled {
+                code: 9,
+                clerk: self,
+            };
         }
         self.live[at] = 0;
         self.last = self.last + k;
-        Ruled { code: 0, clerk: self }
+        Ruled {
+            code: 0,
+            clerk: self,
+        }
     }
 }
 

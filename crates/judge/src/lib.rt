@@ -9,7 +9,6 @@ ghost use Rattle.record.specs.Rows.{rowAt, rows};
 ghost use Rattle.record.specs.Record.{isLength};
 ghost use Rattle.rules.specs.Sound.{between};
 ghost use Rattle.rules.specs.Calls.{clashes, held, isNumber, isLive, mayBegin, mayRead, mayUpdate, mayAbort, mayEvict, mayCommit, mayCompact, mayCheckpoint};
-
 use rules::Bad;
 use rules::Refusal;
 use rules::Verdict;
@@ -166,7 +165,18 @@ fn is_value(v: u64, w: u32) -> bool
     true
 }
 
-pub fn may_read(size: usize, pages: usize, tables: &[u8], online: &[u8], m: usize, room: usize, x: u32, p: u32, offset: u32, w: u32) -> Verdict
+pub fn may_read(
+    size: usize,
+    pages: usize,
+    tables: &[u8],
+    online: &[u8],
+    m: usize,
+    room: usize,
+    x: u32,
+    p: u32,
+    offset: u32,
+    w: u32,
+) -> Verdict
     requires { ⌜ (35 ≤ length (now tables)) × (m * 19 ≤ length (now online)) ⌝ }
     ensures { λ r. ⌜ r ≡ mayRead size pages (now (tables .entry)) (rows 19 m (now (online .entry)) 0) room x p offset w ⌝ }
 {
@@ -201,7 +211,20 @@ fn is_between(w: u32, size: usize) -> bool
     (1 <= w) & (w as usize <= size)
 }
 
-pub fn may_update(size: usize, pages: usize, free: usize, tables: &[u8], online: &[u8], m: usize, x: u32, p: u32, offset: u32, w: u32, kind: u32, v: u64) -> Verdict
+pub fn may_update(
+    size: usize,
+    pages: usize,
+    free: usize,
+    tables: &[u8],
+    online: &[u8],
+    m: usize,
+    x: u32,
+    p: u32,
+    offset: u32,
+    w: u32,
+    kind: u32,
+    v: u64,
+) -> Verdict
     requires { ⌜ (35 ≤ length (now tables)) × (m * 19 ≤ length (now online)) ⌝ }
     ensures { λ r. ⌜ r ≡ mayUpdate size pages free (now (tables .entry)) (rows 19 m (now (online .entry)) 0) x p offset w kind v ⌝ }
 {

@@ -84,6 +84,7 @@ owned-number tables last l h = every-imp (owned tables last) (numberUpTo last) o
     pick false k y z h =
         let e : k ≡ 0 = eqb-true k 0 (and-both y (eqb k 0) (and-both (y && eqb k 0) z h .0) .1) in
         le-leb k last (omega arith)
+
     one : (r : List ℕ) → owned tables last r ≡ true → leb (numberOf r) last ≡ true
     one r k = pick (committed r) (numberOf r) (leb (ownerOf r) 32) (eqb (getD tables (2 + ownerOf r) 0) 1) k
 

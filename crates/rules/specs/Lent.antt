@@ -29,7 +29,7 @@ abbrev pub lentOf : List ℕ → List ℕ → List ℕ → List ℕ → List ℕ
 lentOf fixed marks log stored tables online pool =
     record {
       durable = record { fixed = fixed; marks = marks; log = log; stored = stored };
-      lost = record { tables = tables; online = online; pool = pool }
+      lost = record { tables = tables; online = online; pool = pool };
     }
 
 -- fixed: page size, pages, frames, online size, log size

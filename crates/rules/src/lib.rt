@@ -80,8 +80,26 @@ pub fn answered(a: Answer) -> Reply
     ensures { λ r. ⌜ r ≡ replyOf a ⌝ }
 {
     match a {
-        Answer::Done(c) => Reply { code: 0, note: 0, reads: c.reads, writes: c.writes, logs: c.logs },
-        Answer::NotDue => Reply { code: 0, note: 1, reads: 0, writes: 0, logs: 0 },
-        Answer::Refused(r) => Reply { code: refusal_code(r), note: 0, reads: 0, writes: 0, logs: 0 },
+        Answer::Done(c) => Reply {
+            code: 0,
+            note: 0,
+            reads: c.reads,
+            writes: c.writes,
+            logs: c.logs,
+        },
+        Answer::NotDue => Reply {
+            code: 0,
+            note: 1,
+            reads: 0,
+            writes: 0,
+            logs: 0,
+        },
+        Answer::Refused(r) => Reply {
+            code: refusal_code(r),
+            note: 0,
+            reads: 0,
+            writes: 0,
+            logs: 0,
+        },
     }
 }

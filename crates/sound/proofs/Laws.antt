@@ -68,7 +68,7 @@ sound-shaped s e =
       count = count-within (s .lost .tables) (pagesOf s) (framesOf s) (roomOf s) (sound-tables s e);
       used = used-within (s .lost .tables) (pagesOf s) (framesOf s) (roomOf s) (sound-tables s e);
       entries = entries-within (s .lost .tables) (pagesOf s) (framesOf s) (roomOf s) (sound-tables s e);
-      order = order-within (s .lost .tables) (pagesOf s) (framesOf s) (roomOf s) (sound-tables s e)
+      order = order-within (s .lost .tables) (pagesOf s) (framesOf s) (roomOf s) (sound-tables s e);
     }
 
 pub sound-logged : (s : Lent) → sound s ≡ true → loggedOf s ≤ lastOf s

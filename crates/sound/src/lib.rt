@@ -11,7 +11,17 @@ ghost use Rattle.rules.specs.Lent.{lentOf};
 ghost use Rattle.rules.specs.Sound.{soundDurable, soundLost, sound};
 
 // The lost part, by the parameters that the durable part gave.
-fn lost_at(marks: &[u8], log: &[u8], tables: &[u8], online: &[u8], size: usize, pages: usize, frames: usize, room: usize, span: usize) -> bool
+fn lost_at(
+    marks: &[u8],
+    log: &[u8],
+    tables: &[u8],
+    online: &[u8],
+    size: usize,
+    pages: usize,
+    frames: usize,
+    room: usize,
+    span: usize,
+) -> bool
     requires { ⌜ (size ≤ 4096) × (pages ≤ 1024) × (frames ≤ 64) × (room ≤ 512) × (span ≤ 2048) × (length (now marks) ≡ 12 + 8 * pages) × (length (now log) ≡ 14 * span) × (length (now tables) ≡ 35 + frames + pages) × (length (now online) ≡ 19 * room) × (num 4 (now marks) 8 ≤ span) × (num 4 (now marks) 8 ≤ num 4 (now marks) 0) ⌝ }
     ensures { λ r. ⌜ r ≡ (tablesTest (now (tables .entry)) pages frames room && onlineTest (now (online .entry)) (num 2 (now (tables .entry)) 0) (now (log .entry)) (num 4 (now (marks .entry)) 8) (now (marks .entry)) (now (tables .entry)) size pages frames (num 4 (now (marks .entry)) 0)) ⌝ }
 {
@@ -24,15 +34,41 @@ fn lost_at(marks: &[u8], log: &[u8], tables: &[u8], online: &[u8], size: usize, 
     onlinecheck::sound_online(online, m, log, n, marks, tables, size, pages, frames, last)
 }
 
-fn sound_lost(fixed: &[u8], marks: &[u8], log: &[u8], stored: &[u8], tables: &[u8], online: &[u8], pool: &[u8]) -> bool
+fn sound_lost(
+    fixed: &[u8],
+    marks: &[u8],
+    log: &[u8],
+    stored: &[u8],
+    tables: &[u8],
+    online: &[u8],
+    pool: &[u8],
+) -> bool
     requires { ⌜ soundDurable (lentOf (now fixed) (now marks) (now log) (now stored) (now tables) (now online) (now pool)) ≡ true ⌝ }
     ensures { λ r. ⌜ r ≡ soundLost (lentOf (now (fixed .entry)) (now (marks .entry)) (now (log .entry)) (now (stored .entry)) (now (tables .entry)) (now (online .entry)) (now (pool .entry))) ⌝ }
 {
     let p = durable::params_of(fixed);
-    lost_at(marks, log, tables, online, p.size as usize, p.pages as usize, p.frames as usize, p.room as usize, p.span as usize)
+    lost_at(
+        marks,
+        log,
+        tables,
+        online,
+        p.size as usize,
+        p.pages as usize,
+        p.frames as usize,
+        p.room as usize,
+        p.span as usize,
+    )
 }
 
-pub fn is_sound(fixed: &[u8], marks: &[u8], log: &[u8], stored: &[u8], tables: &[u8], online: &[u8], pool: &[u8]) -> bool
+pub fn is_sound(
+    fixed: &[u8],
+    marks: &[u8],
+    log: &[u8],
+    stored: &[u8],
+    tables: &[u8],
+    online: &[u8],
+    pool: &[u8],
+) -> bool
     ensures { λ r. ⌜ r ≡ sound (lentOf (now (fixed .entry)) (now (marks .entry)) (now (log .entry)) (now (stored .entry)) (now (tables .entry)) (now (online .entry)) (now (pool .entry))) ⌝ }
 {
     if !durable::sound_durable(fixed, marks, log, stored, tables, online, pool) {

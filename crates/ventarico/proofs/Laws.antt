@@ -22,7 +22,7 @@ pub told-refused : (v : Verdict) (s : Lent) (buffer : List ℕ) (o : Outcome) (w
 told-refused v s buffer o why r e h =
     record {
       reply = h ∙ sym (ap (λ (w : Verdict). replyOf (settled w s buffer o .answer)) e);
-      lent = sym (ap (λ (w : Verdict). settled w s buffer o .lent) e)
+      lent = sym (ap (λ (w : Verdict). settled w s buffer o .lent) e);
     }
 
 -- a verdict of go: the step's counts and bytes
@@ -30,7 +30,7 @@ pub told-done : (v : Verdict) (s : Lent) (buffer after : List ℕ) (d : Left) (r
 told-done v s buffer after d r t e h l =
     record {
       reply = h ∙ sym (ap (λ (w : Verdict). replyOf (settled w s buffer (doneWith d after) .answer)) e);
-      lent = l ∙ sym (ap (λ (w : Verdict). settled w s buffer (doneWith d after) .lent) e)
+      lent = l ∙ sym (ap (λ (w : Verdict). settled w s buffer (doneWith d after) .lent) e);
     }
 
 -- the check that comes first

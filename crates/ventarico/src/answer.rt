@@ -2,7 +2,6 @@
 ghost use mathlib.Core.Path.{_≡_};
 ghost use Rattle.rules.specs.Answers.{replyOf};
 ghost use Rattle.ventarico.specs.Said.{doneAs};
-
 use rules::Answer;
 use rules::Counts;
 use rules::Refusal;
@@ -17,5 +16,9 @@ pub fn refused(why: Refusal) -> Reply
 pub fn done(reads: u32, writes: u32, logs: u32) -> Reply
     ensures { λ r. ⌜ r ≡ doneAs reads writes logs ⌝ }
 {
-    rules::answered(Answer::Done(Counts { reads, writes, logs }))
+    rules::answered(Answer::Done(Counts {
+        reads,
+        writes,
+        logs,
+    }))
 }

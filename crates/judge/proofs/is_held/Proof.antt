@@ -33,10 +33,11 @@ loop-less : tie.Need-loop-less Inv-loop μ-loop
 loop-less c = search needs
 
 loop-again : tie.Need-loop-again Inv-loop μ-loop
-loop-again c =
-    (search needs,
-    sym (any-turn (clashes (c .before .before .before .before .before .args .x) (c .before .before .before .before .before .args .p) (c .before .before .before .before .before .args .offset) (c .before .before .before .before .before .args .w)) (now (c .before .before .before .before .before .args .online)) _ _ (c .before .before .loop-test .taken) (same _ _ _ (c .before .clashes-row .ensures) (c .if1 .left)))
-    ∙ c .before .before .before .loop .inv .1)
+loop-again c = (
+  search needs,
+  sym (any-turn (clashes (c .before .before .before .before .before .args .x) (c .before .before .before .before .before .args .p) (c .before .before .before .before .before .args .offset) (c .before .before .before .before .before .args .w)) (now (c .before .before .before .before .before .args .online)) _ _ (c .before .before .loop-test .taken) (same _ _ _ (c .before .clashes-row .ensures) (c .if1 .left)))
+      ∙ c .before .before .before .loop .inv .1,
+)
 
 returns-2 : tie.Need-returns-2 Inv-loop μ-loop
 returns-2 c = any-none (clashes (c .before .before .before .args .x) (c .before .before .before .args .p) (c .before .before .before .args .offset) (c .before .before .before .args .w)) (now (c .before .before .before .args .online)) _ _ (c .loop-test .left) ∙ c .before .loop .inv .1

@@ -50,11 +50,12 @@ loop-less c = search needs
 
 -- src/lib.rt:23:5
 loop-again : tie.Need-loop-again Inv-loop μ-loop
-loop-again c =
-    (search needs,
-    ap (λ (b : ℕ). c .before .before .before .loop .n * 256 + b) (c .wide .ensures .0)
-    ∙ num-turn _ _ _ _ _ (c .before .before .loop-test .taken) (c .before .before .before .loop .inv .0) (c .before .before .before .loop .inv .1),
-    below-turn _ _ _ _ (c .before .before .loop-test .taken) (c .before .before .before .loop .inv .0) (c .wide .ensures .1) (c .before .before .before .loop .inv .2))
+loop-again c = (
+  search needs,
+  ap (λ (b : ℕ). c .before .before .before .loop .n * 256 + b) (c .wide .ensures .0)
+      ∙ num-turn _ _ _ _ _ (c .before .before .loop-test .taken) (c .before .before .before .loop .inv .0) (c .before .before .before .loop .inv .1),
+  below-turn _ _ _ _ (c .before .before .loop-test .taken) (c .before .before .before .loop .inv .0) (c .wide .ensures .1) (c .before .before .before .loop .inv .2),
+)
 
 -- src/lib.rt:16:1
 returns : tie.Need-returns Inv-loop μ-loop

@@ -1,0 +1,350 @@
+// Each call judged whole: soundness first, then the call's own refusals in their order. Everything is lent to be read.
+// These ask nothing of their caller; `Go` is what a door waits for.
+ghost use mathlib.Core.Path.{_≡_};
+ghost use mathlib.Core.Bool.{true, _&&_};
+ghost use Prim.Native.Nat.{_*_, _≤_};
+ghost use lib.ListN.{length, getD};
+ghost use lib.Dec.{eqb};
+ghost use Rattle.record.specs.Rows.{rows, keep};
+ghost use Rattle.record.specs.Record.{ownedBy};
+ghost use Rattle.rules.specs.Sound.{inRange, exactLengths};
+ghost use Rattle.rules.specs.Lent.{lentOf, entryAt};
+ghost use Rattle.rules.specs.Calls.{judgeBegin, judgeRead, judgeUpdate, judgeCommit, judgeAbort, judgeEvict, judgeCompact, judgeClose, judgeCheckpoint, judgeRestart, judgeFormat};
+use rules::Bad;
+use rules::Refusal;
+use rules::Verdict;
+
+pub fn judge_begin(
+    fixed: &[u8],
+    marks: &[u8],
+    log: &[u8],
+    stored: &[u8],
+    tables: &[u8],
+    online: &[u8],
+    pool: &[u8],
+    x: u32,
+) -> Verdict
+    ensures { λ r. ⌜ r ≡ judgeBegin (lentOf (now (fixed .entry)) (now (marks .entry)) (now (log .entry)) (now (stored .entry)) (now (tables .entry)) (now (online .entry)) (now (pool .entry))) x ⌝ }
+{
+    if !sound::is_sound(fixed, marks, log, stored, tables, online, pool) {
+        return Verdict::Refuse(Refusal::NotSound);
+    }
+    judge::may_begin(tables, x)
+}
+
+pub fn judge_abort(
+    fixed: &[u8],
+    marks: &[u8],
+    log: &[u8],
+    stored: &[u8],
+    tables: &[u8],
+    online: &[u8],
+    pool: &[u8],
+    x: u32,
+) -> Verdict
+    ensures { λ r. ⌜ r ≡ judgeAbort (lentOf (now (fixed .entry)) (now (marks .entry)) (now (log .entry)) (now (stored .entry)) (now (tables .entry)) (now (online .entry)) (now (pool .entry))) x ⌝ }
+{
+    if !sound::is_sound(fixed, marks, log, stored, tables, online, pool) {
+        return Verdict::Refuse(Refusal::NotSound);
+    }
+    judge::may_abort(tables, x)
+}
+
+pub fn judge_close(
+    fixed: &[u8],
+    marks: &[u8],
+    log: &[u8],
+    stored: &[u8],
+    tables: &[u8],
+    online: &[u8],
+    pool: &[u8],
+) -> Verdict
+    ensures { λ r. ⌜ r ≡ judgeClose (lentOf (now (fixed .entry)) (now (marks .entry)) (now (log .entry)) (now (stored .entry)) (now (tables .entry)) (now (online .entry)) (now (pool .entry))) ⌝ }
+{
+    if !sound::is_sound(fixed, marks, log, stored, tables, online, pool) {
+        return Verdict::Refuse(Refusal::NotSound);
+    }
+    Verdict::Go
+}
+
+pub fn judge_checkpoint(
+    fixed: &[u8],
+    marks: &[u8],
+    log: &[u8],
+    stored: &[u8],
+    tables: &[u8],
+    online: &[u8],
+    pool: &[u8],
+    min_del: u32,
+    max_age: u32,
+) -> Verdict
+    ensures { λ r. ⌜ r ≡ judgeCheckpoint (lentOf (now (fixed .entry)) (now (marks .entry)) (now (log .entry)) (now (stored .entry)) (now (tables .entry)) (now (online .entry)) (now (pool .entry))) «min_del» «max_age» ⌝ }
+{
+    if !sound::is_sound(fixed, marks, log, stored, tables, online, pool) {
+        return Verdict::Refuse(Refusal::NotSound);
+    }
+    judge::may_checkpoint(min_del, max_age)
+}
+
+pub fn judge_compact(
+    fixed: &[u8],
+    marks: &[u8],
+    log: &[u8],
+    stored: &[u8],
+    tables: &[u8],
+    online: &[u8],
+    pool: &[u8],
+    p: u32,
+    min_del: u32,
+    max_age: u32,
+) -> Verdict
+    ensures { λ r. ⌜ r ≡ judgeCompact (lentOf (now (fixed .entry)) (now (marks .entry)) (now (log .entry)) (now (stored .entry)) (now (tables .entry)) (now (online .entry)) (now (pool .entry))) p «min_del» «max_age» ⌝ }
+{
+    if !sound::is_sound(fixed, marks, log, stored, tables, online, pool) {
+        return Verdict::Refuse(Refusal::NotSound);
+    }
+    let given = durable::params_of(fixed);
+    judge::may_compact(given.pages as usize, p, min_del, max_age)
+}
+
+pub fn judge_evict(
+    fixed: &[u8],
+    marks: &[u8],
+    log: &[u8],
+    stored: &[u8],
+    tables: &[u8],
+    online: &[u8],
+    pool: &[u8],
+    p: u32,
+) -> Verdict
+    ensures { λ r. ⌜ r ≡ judgeEvict (lentOf (now (fixed .entry)) (now (marks .entry)) (now (log .entry)) (now (stored .entry)) (now (tables .entry)) (now (online .entry)) (now (pool .entry))) p ⌝ }
+{
+    if !sound::is_sound(fixed, marks, log, stored, tables, online, pool) {
+        return Verdict::Refuse(Refusal::NotSound);
+    }
+    let given = durable::params_of(fixed);
+    let entry = entry_of(tables, given.frames as usize, p);
+    judge::may_evict(given.pages as usize, entry, p)
+}
+
+pub fn judge_read(
+    fixed: &[u8],
+    marks: &[u8],
+    log: &[u8],
+    stored: &[u8],
+    tables: &[u8],
+    online: &[u8],
+    pool: &[u8],
+    room: usize,
+    x: u32,
+    p: u32,
+    offset: u32,
+    w: u32,
+) -> Verdict
+    ensures { λ r. ⌜ r ≡ judgeRead (lentOf (now (fixed .entry)) (now (marks .entry)) (now (log .entry)) (now (stored .entry)) (now (tables .entry)) (now (online .entry)) (now (pool .entry))) room x p offset w ⌝ }
+{
+    if !sound::is_sound(fixed, marks, log, stored, tables, online, pool) {
+        return Verdict::Refuse(Refusal::NotSound);
+    }
+    let given = durable::params_of(fixed);
+    let m = word::load(tables, 0, 2) as usize;
+    judge::may_read(
+        given.size as usize,
+        given.pages as usize,
+        tables,
+        online,
+        m,
+        room,
+        x,
+        p,
+        offset,
+        w,
+    )
+}
+
+pub fn judge_update(
+    fixed: &[u8],
+    marks: &[u8],
+    log: &[u8],
+    stored: &[u8],
+    tables: &[u8],
+    online: &[u8],
+    pool: &[u8],
+    x: u32,
+    p: u32,
+    offset: u32,
+    w: u32,
+    kind: u32,
+    v: u64,
+) -> Verdict
+    ensures { λ r. ⌜ r ≡ judgeUpdate (lentOf (now (fixed .entry)) (now (marks .entry)) (now (log .entry)) (now (stored .entry)) (now (tables .entry)) (now (online .entry)) (now (pool .entry))) x p offset w kind v ⌝ }
+{
+    if !sound::is_sound(fixed, marks, log, stored, tables, online, pool) {
+        return Verdict::Refuse(Refusal::NotSound);
+    }
+    let given = durable::params_of(fixed);
+    let m = word::load(tables, 0, 2) as usize;
+    let room = given.room as usize;
+    judge::may_update(
+        given.size as usize,
+        given.pages as usize,
+        room - m,
+        tables,
+        online,
+        m,
+        x,
+        p,
+        offset,
+        w,
+        kind,
+        v,
+    )
+}
+
+pub fn judge_commit(
+    fixed: &[u8],
+    marks: &[u8],
+    log: &[u8],
+    stored: &[u8],
+    tables: &[u8],
+    online: &[u8],
+    pool: &[u8],
+    x: u32,
+) -> Verdict
+    ensures { λ r. ⌜ r ≡ judgeCommit (lentOf (now (fixed .entry)) (now (marks .entry)) (now (log .entry)) (now (stored .entry)) (now (tables .entry)) (now (online .entry)) (now (pool .entry))) x ⌝ }
+{
+    if !sound::is_sound(fixed, marks, log, stored, tables, online, pool) {
+        return Verdict::Refuse(Refusal::NotSound);
+    }
+    let given = durable::params_of(fixed);
+    let m = word::load(tables, 0, 2) as usize;
+    let n = word::load(marks, 8, 4) as usize;
+    let last = word::load(marks, 0, 4);
+    let k = owned_by(online, m, x);
+    judge::may_commit(given.span as usize, n, last, tables, k, x)
+}
+
+pub fn judge_restart(
+    fixed: &[u8],
+    marks: &[u8],
+    log: &[u8],
+    stored: &[u8],
+    tables: &[u8],
+    online: &[u8],
+    pool: &[u8],
+) -> Verdict
+    ensures { λ r. ⌜ r ≡ judgeRestart (lentOf (now (fixed .entry)) (now (marks .entry)) (now (log .entry)) (now (stored .entry)) (now (tables .entry)) (now (online .entry)) (now (pool .entry))) ⌝ }
+{
+    if !durable::sound_durable(fixed, marks, log, stored, tables, online, pool) {
+        return Verdict::Refuse(Refusal::NotSound);
+    }
+    let given = durable::params_of(fixed);
+    let k = restart::count_entering(fixed, marks, log, stored, tables, online, pool);
+    if (given.room as usize) < k {
+        return Verdict::Refuse(Refusal::OnlineFull);
+    }
+    Verdict::Go
+}
+
+pub fn judge_format(
+    fixed: &[u8],
+    marks: &[u8],
+    log: &[u8],
+    stored: &[u8],
+    tables: &[u8],
+    online: &[u8],
+    pool: &[u8],
+    size: u32,
+    pages: u32,
+    frames: u32,
+    room: u32,
+    span: u32,
+) -> Verdict
+    ensures { λ r. ⌜ r ≡ judgeFormat (lentOf (now (fixed .entry)) (now (marks .entry)) (now (log .entry)) (now (stored .entry)) (now (tables .entry)) (now (online .entry)) (now (pool .entry))) size pages frames room span ⌝ }
+{
+    if !durable::in_range(
+        size as u64,
+        pages as u64,
+        frames as u64,
+        room as u64,
+        span as u64,
+    ) {
+        return Verdict::Refuse(Refusal::Argument(Bad::Parameter));
+    }
+    if !lengths(
+        fixed,
+        marks,
+        log,
+        stored,
+        tables,
+        online,
+        pool,
+        size,
+        pages,
+        frames,
+        room,
+        span,
+    ) {
+        return Verdict::Refuse(Refusal::Argument(Bad::Lent));
+    }
+    Verdict::Go
+}
+
+// The entry of a page; 0 where there is no such page.
+fn entry_of(tables: &[u8], frames: usize, p: u32) -> u8
+    requires { ⌜ frames ≤ 64 ⌝ }
+    ensures { λ r. ⌜ r ≡ getD (now (tables .entry)) (entryAt frames p) 0 ⌝ }
+{
+    let at = 35 + frames + p as usize;
+    if tables.len() <= at {
+        return 0;
+    }
+    tables[at]
+}
+
+// How many online rows are of owner x; an owner past a byte has none.
+fn owned_by(online: &[u8], m: usize, x: u32) -> usize
+    requires { ⌜ (m * 19 ≤ length (now online)) × (m ≤ 512) ⌝ }
+    ensures { λ r. ⌜ (r ≡ length (keep (ownedBy x) (rows 19 m (now (online .entry)) 0))) × (r ≤ 512) ⌝ }
+{
+    if 255 < x {
+        return 0;
+    }
+    table::count_owned(online, m, x as u8)
+}
+
+// Format's lent lengths.
+fn lengths(
+    fixed: &[u8],
+    marks: &[u8],
+    log: &[u8],
+    stored: &[u8],
+    tables: &[u8],
+    online: &[u8],
+    pool: &[u8],
+    size: u32,
+    pages: u32,
+    frames: u32,
+    room: u32,
+    span: u32,
+) -> bool
+    requires { ⌜ inRange size pages frames room span ≡ true ⌝ }
+    ensures { λ r. ⌜ r ≡ (eqb (length (now (fixed .entry))) 20 && exactLengths (lentOf (now (fixed .entry)) (now (marks .entry)) (now (log .entry)) (now (stored .entry)) (now (tables .entry)) (now (online .entry)) (now (pool .entry))) size pages frames room span) ⌝ }
+{
+    if fixed.len() != 20 {
+        return false;
+    }
+    durable::exact_lengths(
+        marks,
+        log,
+        stored,
+        tables,
+        online,
+        pool,
+        size as u64,
+        pages as u64,
+        frames as u64,
+        room as u64,
+        span as u64,
+    )
+}
