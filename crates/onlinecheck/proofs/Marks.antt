@@ -78,14 +78,14 @@ unfolding entryMarked
 marked-clean tables frames pages p a h d = rw (getD-part p (35 + frames) pages tables h, ne-eqb _ 1 d)
 
 -- S9: what S8 and S10 say of the numbers
-slots-of : (first last n k : ℕ) (x y z u v : Bool) → first ≡ last - n + 1 → n ≤ last → n ≤ 2048 → cond x (between 1 k last) (y && eqb k 0 && z) ≡ true → (not x || (leb first k && u)) ≡ true → (eqb k 0 || (leb first k && ltb (k - first) 2048)) ≡ true
-slots-of first last n k true y z u v e p q h g =
+slots-of : (first last n k : ℕ) (x y z u : Bool) → first ≡ last - n + 1 → n ≤ last → n ≤ 2048 → cond x (between 1 k last) (y && eqb k 0 && z) ≡ true → (not x || (leb first k && u)) ≡ true → (eqb k 0 || (leb first k && ltb (k - first) 2048)) ≡ true
+slots-of first last n k true y z u e p q h g =
     let a = and-both (leb 1 k) (leb k last) h in
     let b = and-both (leb first k) u g in
     let l : k ≤ last = leb-true k last (a .1) in
     let m : k - first < 2048 = omega (arith, leb-true first k (b .0)) in
     rw (b .0, lt-ltb (k - first) 2048 m) (or-true (eqb k 0))
-slots-of first last n k false y z u v e p q h g = rw (and-both y (eqb k 0) (and-both (y && eqb k 0) z h .0) .1)
+slots-of first last n k false y z u e p q h g = rw (and-both y (eqb k 0) (and-both (y && eqb k 0) z h .0) .1)
 
 pub slots : (tables log : List ℕ) (first last n : ℕ) → first ≡ last - n + 1 → n ≤ last → n ≤ 2048 → (l : List (List ℕ)) → every (owned tables last) l ≡ true → every (inLog log first) l ≡ true → every (slotted first) l ≡ true
 unfolding every owned inLog
@@ -93,7 +93,7 @@ slots tables log first last n e p q [] h g = refl
 slots tables log first last n e p q (r ∷ l) h g =
     let a = and-both (owned tables last r) (every (owned tables last) l) h in
     let b = and-both (inLog log first r) (every (inLog log first) l) g in
-    let f : slotted first r ≡ true = slots-of first last n (numberOf r) (committed r) (leb (ownerOf r) 32) (eqb (getD tables (2 + ownerOf r) 0) 1) (same (bodyOf r) (rowAt 14 log (numberOf r - first))) true e p q (a .0) (b .0) in
+    let f : slotted first r ≡ true = slots-of first last n (numberOf r) (committed r) (leb (ownerOf r) 32) (eqb (getD tables (2 + ownerOf r) 0) 1) (same (bodyOf r) (rowAt 14 log (numberOf r - first))) e p q (a .0) (b .0) in
     rw f (slots tables log first last n e p q l (a .1) (b .1))
 
 -- a row is free of the marks and of one number more
