@@ -9,6 +9,7 @@ ghost use Rattle.record.specs.Rows.{rows};
 ghost use Rattle.record.specs.Record.{wellFormed};
 ghost use Rattle.rules.specs.Sound.{every, pairs, upTo, zeros, apart};
 ghost use Rattle.onlinecheck.specs.Online.{owned, inLog, aboveStamp, otherNumber, entryAgrees, pageBelow, onlineTest};
+ghost use Rattle.onlinecheck.specs.Marks.{slotted};
 
 mod formed; // S7
 mod owned; // S8
@@ -20,16 +21,7 @@ mod dirty; // S12
 mod apart; // S13
 
 // The rows by themselves, with their owners and the log.
-fn sound_rows(
-    online: &[u8],
-    m: usize,
-    log: &[u8],
-    n: usize,
-    tables: &[u8],
-    size: usize,
-    pages: usize,
-    last: u64,
-) -> bool
+fn sound_rows(online: &[u8], m: usize, log: &[u8], n: usize, tables: &[u8], size: usize, pages: usize, last: u64) -> bool
     requires { ⌜ (m * 19 ≤ length (now online)) × (n * 14 ≤ length (now log)) × (n ≤ last) × (last < 4294967296) × (35 ≤ length (now tables)) ⌝ }
     ensures { λ r. ⌜ r ≡ (every (wellFormed size pages) (rows 19 m (now (online .entry)) 0) && every (owned (now (tables .entry)) last) (rows 19 m (now (online .entry)) 0) && zeros (drop (m * 19) (now (online .entry))) && every (inLog (now (log .entry)) (last - n + 1)) (rows 19 m (now (online .entry)) 0)) ⌝ }
 {
@@ -46,21 +38,14 @@ fn sound_rows(
 }
 
 // The rows with the stamps, the entries and one another.
-fn sound_ties(
-    online: &[u8],
-    m: usize,
-    marks: &[u8],
-    tables: &[u8],
-    pages: usize,
-    frames: usize,
-) -> bool
-    requires { ⌜ (m * 19 ≤ length (now online)) × (length (now marks) ≡ 12 + 8 * pages) × (length (now tables) ≡ 35 + frames + pages) × (every (pageBelow pages) (rows 19 m (now online) 0) ≡ true) ⌝ }
+fn sound_ties(online: &[u8], m: usize, first: u64, marks: &[u8], tables: &[u8], pages: usize, frames: usize) -> bool
+    requires { ⌜ (m * 19 ≤ length (now online)) × (length (now marks) ≡ 12 + 8 * pages) × (length (now tables) ≡ 35 + frames + pages) × (pages ≤ 1024) × (every (pageBelow pages) (rows 19 m (now online) 0) ≡ true) × (every (slotted first) (rows 19 m (now online) 0) ≡ true) ⌝ }
     ensures { λ r. ⌜ r ≡ (every (aboveStamp (now (marks .entry))) (rows 19 m (now (online .entry)) 0) && pairs otherNumber (rows 19 m (now (online .entry)) 0) && upTo (entryAgrees (part (35 + frames) pages (now (tables .entry))) (rows 19 m (now (online .entry)) 0)) pages 0 && pairs apart (rows 19 m (now (online .entry)) 0)) ⌝ }
 {
     if !stamped::all_above(online, m, marks, pages) {
         return false;
     }
-    if !once::all_once(online, m) {
+    if !once::all_once(online, m, first) {
         return false;
     }
     if !dirty::all_agree(online, m, tables, pages, frames) {
@@ -88,5 +73,6 @@ pub fn sound_online(
     if !sound_rows(online, m, log, n, tables, size, pages, last) {
         return false;
     }
-    sound_ties(online, m, marks, tables, pages, frames)
+    let first = last - n as u64 + 1;
+    sound_ties(online, m, first, marks, tables, pages, frames)
 }
