@@ -7,6 +7,7 @@ use mathlib.Core.Path.{_≡_, refl, sym, ap, _∙_}
 use mathlib.Core.Bool.{Bool, true, false, cond, not, _&&_}
 use mathlib.Core.List.{List, [], _∷_, _++_}
 use lib.ListN.{length, getD, take, drop, set, length-take, length-drop}
+use lib.Seq.{take-nil, take-take, drop-drop}
 use lib.Dec.{eqb, leb, ltb}
 use borrow.Author.Tests.{eqb-true, eqb-false, eq-eqb, ne-eqb, leb-true, ltb-true}
 use borrow.Rule.Slice.PartMut.{midOf, putMid, mid-len, put-same}
@@ -14,12 +15,12 @@ use Rattle.record.specs.Part.{part, withPart}
 use Rattle.record.specs.Rows.{rows, keep}
 use Rattle.record.specs.Record.{onPage, applied}
 use Rattle.record.proofs.Laws.{getD-part}
-use Rattle.order.specs.Order.{named, victim, frameFrom, frameFor}
-use Rattle.rules.specs.Lent.{Lent, lentOf, sizeOf, pagesOf, framesOf, countOf, orderOf, entryAt, entryOf, entriesOf, pageIn, withPage, withEntries}
+use Rattle.order.specs.Order.{named, touched, victim, frameFrom, frameFor}
+use Rattle.rules.specs.Lent.{Lent, lentOf, sizeOf, pagesOf, framesOf, countOf, orderOf, entryAt, entryOf, entriesOf, pageIn, withPage, withOrder, withEntries}
 use Rattle.rules.specs.Sound.{every}
 use Rattle.rules.specs.Shape.{Sized, Shaped}
-use Rattle.rules.specs.Steps.{placed, rebuilt, placeOf, fetchedEntries, fetchedPool, fetchReads}
-use Rattle.fetch.specs.Post.{SizesRead, PageBrought, PageFetched}
+use Rattle.rules.specs.Steps.{placed, rebuilt, placeOf, fetchedEntries, fetchedPool, fetchReads, readTables, readStep, readBytes}
+use Rattle.fetch.specs.Post.{SizesRead, PageBrought, PageFetched, PageUsed, ReadDone}
 
 -- one of n frames lies within the n of them
 pub frame-fits : (f n size : ℕ) → f < n → f * size + size ≤ size * n
@@ -122,4 +123,54 @@ brought s p f size pages frames m e t g z i j et eg =
     record {
       tables = rw (← z .frames, ← z .pages) et;
       pool = rw (← z .frames, ← z .size, ← i, ← j) eg;
+    }
+
+-- a part of a part
+drop-take : (i k : ℕ) (l : List ℕ) → i ≤ k → drop i (take k l) ≡ take (k - i) (drop i l)
+drop-take zero k l h = let e : k - 0 ≡ k = omega arith in rw e
+drop-take (suc i) zero l h = absurd (omega arith)
+drop-take (suc i) (suc k) [] h = sym (take-nil (suc k - suc i))
+drop-take (suc i) (suc k) (x ∷ l) h = let e : suc k - suc i ≡ k - i = omega arith in rw e (drop-take i k l (omega arith))
+
+pub part-part : (b w a k : ℕ) (l : List ℕ) → b + w ≤ k → part b w (part a k l) ≡ part (a + b) w l
+part-part b w a k l h =
+    ap (λ (m : List ℕ). take w m) (drop-take b k (drop a l) (omega arith))
+    ∙ take-take w (k - b) (drop b (drop a l)) (omega arith)
+    ∙ ap (λ (m : List ℕ). take w m) (drop-drop b a l)
+
+-- bytes of a page, out of its frame
+pub out-length : (l m : List ℕ) (a w : ℕ) → w ≤ length m → a + w ≤ length l → length (take w m) ≡ length (take (a + w - a) (drop a l))
+out-length l m a w h i =
+    let d : a + w - a ≡ w = omega arith in
+    rw d (omega (arith, length-take w m, length-take w (drop a l), length-drop a l))
+
+pub out-part : (l b ys : List ℕ) (f size offset w : ℕ) → offset + w ≤ size → ys ≡ take (f * size + offset + w - (f * size + offset)) (drop (f * size + offset) l) → ys ++ drop w b ≡ part offset w (pageIn size f l) ++ drop w b
+out-part l b ys f size offset w h e =
+    let d : f * size + offset + w - (f * size + offset) ≡ w = omega arith in
+    rw (e, d, part-part offset w (f * size) size l h)
+
+-- the frame is the latest used
+pub used : (s : Lent) (p f n size pages frames : ℕ) (o t t′ g : List ℕ) → SizesRead (s .durable .fixed) size pages frames → o ≡ orderOf s → PageFetched s p f n t g → t′ ≡ withOrder frames (touched f o) t → PageUsed s p f n t′ g (readTables s p)
+unfolding readTables
+used s p f n size pages frames o t t′ g z i h e =
+    record {
+      frame = h .frame;
+      within = h .within;
+      reads = h .reads;
+      tables = e ∙ rw (z .frames, i, h .frame, h .tables);
+      pool = h .pool;
+    }
+
+-- its bytes lie within the pool
+pub used-fits : (s : Lent) (p f n size pages frames : ℕ) (t g m : List ℕ) → Shaped s → SizesRead (s .durable .fixed) size pages frames → PageUsed s p f n t g m → length g ≡ length (s .lost .pool) → f * size + size ≤ length g
+used-fits s p f n size pages frames t g m h z w e =
+    rw (z .size) (omega (arith, frame-fits f (framesOf s) (sizeOf s) (w .within), h .sized .pool, e))
+
+pub read-done : (s : Lent) (p offset w f n size pages frames : ℕ) (t g b d : List ℕ) → SizesRead (s .durable .fixed) size pages frames → PageUsed s p f n t g (readTables s p) → d ≡ part offset w (pageIn size f g) ++ drop w b → ReadDone s p offset w n t g b d
+unfolding readStep readBytes
+read-done s p offset w f n size pages frames t g b d z h e =
+    record {
+      reads = h .reads;
+      lent = rw (h .tables, h .pool);
+      buffer = e ∙ rw (z .size, h .frame, h .pool);
     }

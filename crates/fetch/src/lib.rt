@@ -9,12 +9,12 @@ ghost use Rattle.word.specs.Word.{num};
 ghost use Rattle.record.specs.Part.{part};
 ghost use Rattle.record.specs.Rows.{rows, keep};
 ghost use Rattle.record.specs.Record.{onPage, applied};
+ghost use Rattle.order.specs.Order.{touched};
 ghost use Rattle.order.specs.Meant.{listOf};
-ghost use Rattle.rules.specs.Lent.{lentOf, sizeOf, pagesOf, framesOf, orderOf, entriesOf, entryAt, pageIn, withPage, withEntries};
+ghost use Rattle.rules.specs.Lent.{lentOf, sizeOf, pagesOf, framesOf, orderOf, entriesOf, entryAt, pageIn, withPage, withOrder, withEntries};
 ghost use Rattle.rules.specs.Shape.{Shaped};
 ghost use Rattle.rules.specs.Steps.{placed, rebuilt, readTables};
-ghost use Rattle.fetch.specs.Post.{SizesRead, PageBrought, PageFetched};
-
+ghost use Rattle.fetch.specs.Post.{SizesRead, PageBrought, PageFetched, PageUsed, ReadDone};
 use number::FrameNo;
 use number::PageNo;
 use order::Order;
@@ -39,7 +39,11 @@ fn load_sizes(fixed: &[u8]) -> Sizes
     let size = word::load(fixed, 0, 4) as usize;
     let pages = word::load(fixed, 4, 4) as usize;
     let frames = word::load(fixed, 8, 4) as usize;
-    Sizes { size, pages, frames }
+    Sizes {
+        size,
+        pages,
+        frames,
+    }
 }
 
 // How many online records there are.
@@ -70,7 +74,16 @@ fn take_frame(tables: &mut [u8], frames: usize, pages: usize, f: FrameNo, p: Pag
 }
 
 // Page p goes into frame f: the frame's bytes, lent on by themselves.
-fn fill_frame(pool: &mut [u8], size: usize, f: FrameNo, stored: &[u8], p: PageNo, online: &[u8], m: usize, evicted: bool)
+fn fill_frame(
+    pool: &mut [u8],
+    size: usize,
+    f: FrameNo,
+    stored: &[u8],
+    p: PageNo,
+    online: &[u8],
+    m: usize,
+    evicted: bool,
+)
     requires { ⌜ (f .0 * size + size ≤ length (now pool)) × (p .0 * size + size ≤ length (now stored)) × (m * 19 ≤ length (now online)) ⌝ }
     ensures { λ r. ⌜ now (pool .exit) ≡ withPage size (f .0) (now (pool .entry)) (cond evicted (applied (keep (onPage (p .0)) (rows 19 m (now (online .entry)) 0)) (pageIn size (p .0) (now (stored .entry)))) (pageIn size (p .0) (now (stored .entry)))) ⌝ }
 {
@@ -80,7 +93,17 @@ fn fill_frame(pool: &mut [u8], size: usize, f: FrameNo, stored: &[u8], p: PageNo
 }
 
 // Page p goes into frame f.
-fn bring_in(fixed: &[u8], marks: &[u8], log: &[u8], stored: &[u8], tables: &mut [u8], online: &[u8], pool: &mut [u8], f: FrameNo, p: PageNo)
+fn bring_in(
+    fixed: &[u8],
+    marks: &[u8],
+    log: &[u8],
+    stored: &[u8],
+    tables: &mut [u8],
+    online: &[u8],
+    pool: &mut [u8],
+    f: FrameNo,
+    p: PageNo,
+)
     requires { ⌜ Shaped (lentOf (now fixed) (now marks) (now log) (now stored) (now tables) (now online) (now pool)) × (p .0 < pagesOf (lentOf (now fixed) (now marks) (now log) (now stored) (now tables) (now online) (now pool))) × (f .0 < framesOf (lentOf (now fixed) (now marks) (now log) (now stored) (now tables) (now online) (now pool))) ⌝ }
     ensures { λ r. ⌜ PageBrought (lentOf (now (fixed .entry)) (now (marks .entry)) (now (log .entry)) (now (stored .entry)) (now (tables .entry)) (now (online .entry)) (now (pool .entry))) (p .0) (f .0) (now (tables .exit)) (now (pool .exit)) ⌝ }
 {
@@ -95,7 +118,17 @@ fn bring_in(fixed: &[u8], marks: &[u8], log: &[u8], stored: &[u8], tables: &mut 
 }
 
 // Page p in a frame. The use order is handed in by value and not changed here.
-pub fn fetch(fixed: &[u8], marks: &[u8], log: &[u8], stored: &[u8], tables: &mut [u8], online: &[u8], pool: &mut [u8], order: Order, p: PageNo) -> Fetched
+pub fn fetch(
+    fixed: &[u8],
+    marks: &[u8],
+    log: &[u8],
+    stored: &[u8],
+    tables: &mut [u8],
+    online: &[u8],
+    pool: &mut [u8],
+    order: Order,
+    p: PageNo,
+) -> Fetched
     requires { ⌜ Shaped (lentOf (now fixed) (now marks) (now log) (now stored) (now tables) (now online) (now pool)) × (p .0 < pagesOf (lentOf (now fixed) (now marks) (now log) (now stored) (now tables) (now online) (now pool))) × (listOf order ≡ orderOf (lentOf (now fixed) (now marks) (now log) (now stored) (now tables) (now online) (now pool))) × (order .used ≤ 64) ⌝ }
     ensures { λ r. ⌜ PageFetched (lentOf (now (fixed .entry)) (now (marks .entry)) (now (log .entry)) (now (stored .entry)) (now (tables .entry)) (now (online .entry)) (now (pool .entry))) (p .0) (r .frame .0) (r .reads) (now (tables .exit)) (now (pool .exit)) ⌝ }
 {
@@ -111,4 +144,71 @@ pub fn fetch(fixed: &[u8], marks: &[u8], log: &[u8], stored: &[u8], tables: &mut
     let f = order.frame_for(frames);
     bring_in(fixed, marks, log, stored, tables, online, pool, f, p);
     Fetched { frame: f, reads: 1 }
+}
+
+// Frame f becomes the latest used.
+fn make_latest(tables: &mut [u8], frames: usize, order: Order, f: FrameNo)
+    requires { ⌜ (35 + frames ≤ length (now tables)) × (frames ≤ 64) × (order .used ≤ 64) × (f .0 < 256) ⌝ }
+    ensures { λ r. ⌜ now (tables .exit) ≡ withOrder frames (touched (f .0) (listOf order)) (now (tables .entry)) ⌝ }
+{
+    let next = order.touch(f);
+    frames::save_order(tables, frames, next);
+}
+
+// Page p in a frame, which becomes the latest used.
+fn use_page(
+    fixed: &[u8],
+    marks: &[u8],
+    log: &[u8],
+    stored: &[u8],
+    tables: &mut [u8],
+    online: &[u8],
+    pool: &mut [u8],
+    p: PageNo,
+) -> Fetched
+    requires { ⌜ Shaped (lentOf (now fixed) (now marks) (now log) (now stored) (now tables) (now online) (now pool)) × (p .0 < pagesOf (lentOf (now fixed) (now marks) (now log) (now stored) (now tables) (now online) (now pool))) ⌝ }
+    ensures { λ r. ⌜ PageUsed (lentOf (now (fixed .entry)) (now (marks .entry)) (now (log .entry)) (now (stored .entry)) (now (tables .entry)) (now (online .entry)) (now (pool .entry))) (p .0) (r .frame .0) (r .reads) (now (tables .exit)) (now (pool .exit)) (readTables (lentOf (now (fixed .entry)) (now (marks .entry)) (now (log .entry)) (now (stored .entry)) (now (tables .entry)) (now (online .entry)) (now (pool .entry))) (p .0)) ⌝ }
+{
+    let s = load_sizes(fixed);
+    let frames = s.frames;
+    let order = frames::load_order(tables, frames);
+    let got = fetch(fixed, marks, log, stored, tables, online, pool, order, p);
+    let f = got.frame;
+    make_latest(tables, frames, order, f);
+    got
+}
+
+// Bytes of a page in its frame, to the front of the buffer.
+fn copy_out(pool: &[u8], size: usize, f: FrameNo, offset: usize, w: usize, buffer: &mut [u8])
+    requires { ⌜ (f .0 * size + size ≤ length (now pool)) × (offset + w ≤ size) × (w ≤ length (now buffer)) ⌝ }
+    ensures { λ r. ⌜ now (buffer .exit) ≡ part offset w (pageIn size (f .0) (now (pool .entry))) ++ drop w (now (buffer .entry)) ⌝ }
+{
+    let a = f.0 * size + offset;
+    let e = a + w;
+    frames::copy(&mut buffer[..w], &pool[a..e]);
+}
+
+// The w bytes at an offset of page p, to the front of the buffer.
+pub fn read(
+    fixed: &[u8],
+    marks: &[u8],
+    log: &[u8],
+    stored: &[u8],
+    tables: &mut [u8],
+    online: &[u8],
+    pool: &mut [u8],
+    buffer: &mut [u8],
+    p: PageNo,
+    offset: usize,
+    w: usize,
+) -> u32
+    requires { ⌜ Shaped (lentOf (now fixed) (now marks) (now log) (now stored) (now tables) (now online) (now pool)) × (p .0 < pagesOf (lentOf (now fixed) (now marks) (now log) (now stored) (now tables) (now online) (now pool))) × (offset + w ≤ sizeOf (lentOf (now fixed) (now marks) (now log) (now stored) (now tables) (now online) (now pool))) × (w ≤ length (now buffer)) ⌝ }
+    ensures { λ r. ⌜ ReadDone (lentOf (now (fixed .entry)) (now (marks .entry)) (now (log .entry)) (now (stored .entry)) (now (tables .entry)) (now (online .entry)) (now (pool .entry))) (p .0) offset w r (now (tables .exit)) (now (pool .exit)) (now (buffer .entry)) (now (buffer .exit)) ⌝ }
+{
+    let s = load_sizes(fixed);
+    let size = s.size;
+    let got = use_page(fixed, marks, log, stored, tables, online, pool, p);
+    let f = got.frame;
+    copy_out(pool, size, f, offset, w, buffer);
+    got.reads
 }

@@ -1,68 +1,53 @@
+-- `fetch::fetch` meets its contract: a page in a frame stays, any other is brought into the frame for it.
 use denote.Ref.{now}
+use borrow.Author.Needs.{needs}
 use Rattle.rules.specs.Lent.{lentOf}
 use Rattle.fetch.proofs.Laws.{entry-in, frame-in, frame-within, fetched-there, fetched-new}
-use borrow.Author.Needs.{needs}
 use Rattle.fetch.proofs.fetch.Statement.{statement}
 use Rattle.fetch.proofs.fetch.Tie as tie
-use Rattle.fetch.proofs.fetch.Reads as reads
-use Rattle.fetch.proofs.fetch.Lts as lts
-use Rattle.fetch.proofs.bring_in.Reads as bring-in-reads
-use Rattle.fetch.proofs.entry_of.Reads as entry-of-reads
-use Rattle.fetch.proofs.load_sizes.Reads as load-sizes-reads
-use Rattle.order.proofs.Order.frame_for.Reads as frame-for-reads
 
--- src/lib.rt:102:9
 load-sizes-requires : tie.Need-load-sizes-requires
 load-sizes-requires c κs = search needs
 
--- src/lib.rt:104:16
 entry-of-requires : tie.Need-entry-of-requires
 entry-of-requires c κs = search needs
 
--- src/lib.rt:107:28
 sub-t18 : tie.Need-sub-t18
 sub-t18 c = search needs
 
--- src/lib.rt:106:9
 same-length : tie.Need-same-length
 same-length c = search needs
 
--- src/lib.rt:106:9
 returns : tie.Need-returns
 returns c =
     let a = c .before .before .before .before .before .before .before .before .before .before .before .args in
     let h = c .before .before .before .before .before .before .before .before .before .before .before .pre in
     fetched-there (lentOf (now (a .fixed)) (now (a .marks)) (now (a .log)) (now (a .stored)) (now (a .tables)) (now (a .online)) (now (a .pool))) (a .p .0) _ (h .0) (h .1) (entry-in (lentOf (now (a .fixed)) (now (a .marks)) (now (a .log)) (now (a .stored)) (now (a .tables)) (now (a .online)) (now (a .pool))) (a .p .0) _ _ _ _ (c .before .before .before .load-sizes .ensures) (c .before .entry-of .ensures .0)) (c .if1 .taken)
 
--- src/lib.rt:111:9
 frame-for-requires : tie.Need-frame-for-requires
 frame-for-requires c κs = search needs
 
--- src/lib.rt:112:5
 bring-in-requires : tie.Need-bring-in-requires
 bring-in-requires c κs =
     let a = c .before .before .before .before .before .before .before .before .before .before .before .before .before .before .args in
     let h = c .before .before .before .before .before .before .before .before .before .before .before .before .before .before .pre in
     (h .0, h .1, frame-within (lentOf (now (a .fixed)) (now (a .marks)) (now (a .log)) (now (a .stored)) (now (a .tables)) (now (a .online)) (now (a .pool))) _ _ _ _ _ (h .0) (h .2) (c .before .before .before .before .before .before .load-sizes .ensures) (c .before .before .frame-for .ensures .0))
 
--- src/lib.rt:98:1
 same-length-2 : tie.Need-same-length-2
 same-length-2 c = search needs
 
--- src/lib.rt:98:1
 same-length-3 : tie.Need-same-length-3
 same-length-3 c = search needs
 
--- src/lib.rt:98:1
 returns-2 : tie.Need-returns-2
 returns-2 c =
     let a = c .before .before .before .before .before .before .before .before .before .before .before .before .before .before .before .before .before .before .before .args in
     let h = c .before .before .before .before .before .before .before .before .before .before .before .before .before .before .before .before .before .before .before .pre in
     fetched-new (lentOf (now (a .fixed)) (now (a .marks)) (now (a .log)) (now (a .stored)) (now (a .tables)) (now (a .online)) (now (a .pool))) (a .p .0) _ _ (h .0)
-        (entry-in (lentOf (now (a .fixed)) (now (a .marks)) (now (a .log)) (now (a .stored)) (now (a .tables)) (now (a .online)) (now (a .pool))) (a .p .0) _ _ _ _ (c .before .before .before .before .before .before .before .before .before .before .before .load-sizes .ensures) (c .before .before .before .before .before .before .before .before .before .entry-of .ensures .0))
-        (c .before .before .before .before .before .before .before .before .if1 .left)
-        (frame-in (lentOf (now (a .fixed)) (now (a .marks)) (now (a .log)) (now (a .stored)) (now (a .tables)) (now (a .online)) (now (a .pool))) _ _ _ _ _ (h .2) (c .before .before .before .before .before .before .before .before .before .before .before .load-sizes .ensures) (c .before .before .before .before .before .before .before .frame-for .ensures .0))
-        (c .before .before .before .before .bring-in .ensures)
+    (entry-in (lentOf (now (a .fixed)) (now (a .marks)) (now (a .log)) (now (a .stored)) (now (a .tables)) (now (a .online)) (now (a .pool))) (a .p .0) _ _ _ _ (c .before .before .before .before .before .before .before .before .before .before .before .load-sizes .ensures) (c .before .before .before .before .before .before .before .before .before .entry-of .ensures .0))
+    (c .before .before .before .before .before .before .before .before .if1 .left)
+    (frame-in (lentOf (now (a .fixed)) (now (a .marks)) (now (a .log)) (now (a .stored)) (now (a .tables)) (now (a .online)) (now (a .pool))) _ _ _ _ _ (h .2) (c .before .before .before .before .before .before .before .before .before .before .before .load-sizes .ensures) (c .before .before .before .before .before .before .before .frame-for .ensures .0))
+    (c .before .before .before .before .bring-in .ensures)
 
 pub fetch-spec : {M : Type 1} → statement M
 fetch-spec =

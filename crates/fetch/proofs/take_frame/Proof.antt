@@ -1,53 +1,43 @@
+-- `fetch::take_frame` meets its contract: the entries are lent on by themselves and put back.
 use Prim.Native.Nat.{ℕ, _+_, _-_}
 use native.Mathlib.Omega.{arith}
 use mathlib.Core.Path.{_≡_, refl, ap, _∙_}
 use denote.Ref.{now}
+use borrow.Author.Needs.{needs}
 use Rattle.record.specs.Part.{part}
 use Rattle.rules.specs.Steps.{placed}
 use Rattle.fetch.proofs.Laws.{mid-put}
-use borrow.Author.Needs.{needs}
 use Rattle.fetch.proofs.take_frame.Statement.{statement}
 use Rattle.fetch.proofs.take_frame.Tie as tie
-use Rattle.fetch.proofs.take_frame.Reads as reads
-use Rattle.fetch.proofs.take_frame.Lts as lts
-use Rattle.frames.proofs.place.Reads as place-reads
 
--- src/lib.rt:67:13
 add-a : tie.Need-add-a
 add-a c = search needs
 
--- src/lib.rt:68:13
 add-e : tie.Need-add-e
 add-e c = search needs
 
--- src/lib.rt:69:19
 sub-place : tie.Need-sub-place
 sub-place c = search needs
 
--- src/lib.rt:69:19
 part-place-start : tie.Need-part-place-start
 part-place-start c = search needs
 
--- src/lib.rt:69:19
 part-place-end : tie.Need-part-place-end
 part-place-end c = search needs
 
--- src/lib.rt:69:5
 place-requires : tie.Need-place-requires
 place-requires c κs = search needs
 
--- src/lib.rt:63:1
 same-length : tie.Need-same-length
 same-length c = search needs
 
--- src/lib.rt:63:1
 returns : tie.Need-returns
 returns c =
     let a = c .before .before .before .before .before .args in
     let b = 35 + a .frames in
     let d : b + a .pages - b ≡ a .pages = omega arith in
     mid-put (now (a .tables)) (c .before .before .place .last .0) _ b (a .pages) (b + a .pages) refl
-        (c .before .before .place .ensures ∙ ap (λ (k : ℕ). placed (a .f .0) (a .p .0) (part b k (now (a .tables)))) d)
+    (c .before .before .place .ensures ∙ ap (λ (k : ℕ). placed (a .f .0) (a .p .0) (part b k (now (a .tables)))) d)
 
 pub take-frame-spec : {M : Type 1} → statement M
 take-frame-spec =
