@@ -1,0 +1,5 @@
+-- The laws that callers' proofs cite.
+pub mod Laws
+pub mod Moves
+pub mod Turns
+pub mod Surveys

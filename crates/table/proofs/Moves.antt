@@ -1,0 +1,137 @@
+-- Laws of bytes written, copied and moved, and of a list with another part.
+use Prim.Native.Nat.{ℕ, zero, suc, _+_, _-_, _≤_, _<_}
+use native.Mathlib.Omega.{arith}
+use native.Mathlib.Nat.{zero-add, suc-add, not-suc-le-zero, le-of-suc-le-suc}
+use native.Mathlib.Numerals.{add-one}
+use mathlib.Core.Path.{_≡_, refl, sym, ap, _∙_}
+use mathlib.Core.List.{List, [], _∷_, _++_, append-assoc, append-nil}
+use lib.ListN.{length, take, drop, getD, set, replicate, take-append-drop, length-append, length-drop, length-take}
+use lib.Seq.{take-add, drop-drop, take-at, drop-at, take-length, drop-length, take-all, length-take-le, getD-append-add, getD-drop}
+use lib.ListN.{drop-of-length-le, length-set}
+use borrow.Author.Fill.{fill-more}
+use Rattle.record.specs.Part.{part, withPart}
+
+-- `wipe`
+pub wipe-turn : (i : ℕ) (d l : List ℕ) → i < length d → l ≡ replicate i 0 ++ drop i d → set l i 0 ≡ replicate (i + 1) 0 ++ drop (i + 1) d
+wipe-turn i d l h e = ap (λ (x : List ℕ). set x i 0) e ∙ fill-more i 0 d h
+
+pub wipe-end : (i : ℕ) (d l : List ℕ) → i ≤ length d → length d ≤ i → l ≡ replicate i 0 ++ drop i d → l ≡ replicate (length d) 0
+wipe-end i d l p q e =
+    let h : i ≡ length d = omega arith in
+    e ∙ ap (λ (k : ℕ). replicate k 0 ++ drop k d) h ∙ ap (λ (x : List ℕ). replicate (length d) 0 ++ x) (drop-length d) ∙ append-nil (replicate (length d) 0)
+
+-- `copy`: the first i bytes are copied
+copy-suc : (i : ℕ) (s d : List ℕ) → i < length s → length s ≤ length d → set (take i s ++ drop i d) i (getD s i 0) ≡ take (suc i) s ++ drop (suc i) d
+copy-suc i [] d h k = absurd (not-suc-le-zero h)
+copy-suc i (x ∷ s) [] h k = absurd (not-suc-le-zero k)
+copy-suc zero (x ∷ s) (y ∷ d) h k = refl
+copy-suc (suc i) (x ∷ s) (y ∷ d) h k = ap (λ (l : List ℕ). x ∷ l) (copy-suc i s d (le-of-suc-le-suc h) (le-of-suc-le-suc k))
+
+copy-more : (i : ℕ) (s d : List ℕ) → i < length s → length s ≤ length d → set (take i s ++ drop i d) i (getD s i 0) ≡ take (i + 1) s ++ drop (i + 1) d
+copy-more i s d h k = copy-suc i s d h k ∙ ap (λ (n : ℕ). take n s ++ drop n d) (sym (add-one i))
+
+pub copy-turn : (i : ℕ) (s d l : List ℕ) → i < length s → length s ≤ length d → l ≡ take i s ++ drop i d → set l i (getD s i 0) ≡ take (i + 1) s ++ drop (i + 1) d
+copy-turn i s d l h k e = ap (λ (x : List ℕ). set x i (getD s i 0)) e ∙ copy-more i s d h k
+
+pub copy-end : (i : ℕ) (s d l : List ℕ) → i ≤ length s → length s ≤ i → l ≡ take i s ++ drop i d → l ≡ s ++ drop (length s) d
+copy-end i s d l p q e =
+    let h : i ≡ length s = omega arith in
+    e ∙ ap (λ (k : ℕ). take k s ++ drop k d) h ∙ ap (λ (x : List ℕ). x ++ drop (length s) d) (take-length s)
+
+-- `slide`: the first i bytes are moved
+set-append-add : (xs ys : List ℕ) (n a : ℕ) → set (xs ++ ys) (length xs + n) a ≡ xs ++ set ys n a
+set-append-add [] ys n a = ap (λ (k : ℕ). set ys k a) (zero-add n)
+set-append-add (x ∷ xs) ys n a = ap (λ (k : ℕ). set (x ∷ (xs ++ ys)) k a) (suc-add (length xs) n) ∙ ap (λ (l : List ℕ). x ∷ l) (set-append-add xs ys n a)
+
+-- a byte past the part
+getD-past : (a k n : ℕ) (l ys : List ℕ) → a ≤ length l → length ys ≡ k → getD (withPart a k l ys) (a + (k + n)) 0 ≡ getD l (a + (k + n)) 0
+getD-past a k n l ys h e =
+    ap (λ (x : ℕ). getD (withPart a k l ys) (x + (k + n)) 0) (sym (length-take-le a l h))
+    ∙ getD-append-add (take a l) (ys ++ drop k (drop a l)) (k + n) 0
+    ∙ ap (λ (x : ℕ). getD (ys ++ drop k (drop a l)) (x + n) 0) (sym e)
+    ∙ getD-append-add ys (drop k (drop a l)) n 0
+    ∙ getD-drop k (drop a l) n 0
+    ∙ getD-drop a l (k + n) 0
+
+slide-more : (l : List ℕ) (from to i n : ℕ) → to ≤ from → from + n ≤ length l → i < n
+    → set (withPart to i l (part from i l)) (to + i) (getD l (from + i) 0) ≡ withPart to (i + 1) l (part from (i + 1) l)
+slide-more l from to i n p q h =
+    let ht : to ≤ length l = omega arith in
+    let h₁ : i < length (drop from l) = rw (length-drop from l) (omega arith) in
+    let h₂ : length (drop from l) ≤ length (drop to l) = rw (length-drop from l, length-drop to l) (omega arith) in
+    ap (λ (x : ℕ). set (withPart to i l (part from i l)) (x + i) (getD l (from + i) 0)) (sym (length-take-le to l ht))
+    ∙ set-append-add (take to l) (take i (drop from l) ++ drop i (drop to l)) i (getD l (from + i) 0)
+    ∙ ap (λ (x : ℕ). take to l ++ set (take i (drop from l) ++ drop i (drop to l)) i x) (sym (getD-drop from l i 0))
+    ∙ ap (λ (x : List ℕ). take to l ++ x) (copy-more i (drop from l) (drop to l) h₁ h₂)
+
+slide-reads : (l : List ℕ) (from to i n : ℕ) → to ≤ from → from + n ≤ length l → i < n → getD (withPart to i l (part from i l)) (from + i) 0 ≡ getD l (from + i) 0
+slide-reads l from to i n p q h =
+    let ht : to ≤ length l = omega arith in
+    let hi : i ≤ length (drop from l) = rw (length-drop from l) (omega arith) in
+    let e : to + (i + (from - to)) ≡ from + i = omega arith in
+    rw e at (getD-past to i (from - to) l (part from i l) ht (length-take-le i (drop from l) hi))
+
+pub slide-turn : (l s : List ℕ) (from to i n : ℕ) → to ≤ from → from + n ≤ length l → i < n → s ≡ withPart to i l (part from i l)
+    → set s (to + i) (getD s (from + i) 0) ≡ withPart to (i + 1) l (part from (i + 1) l)
+slide-turn l s from to i n p q h e =
+    ap (λ (x : List ℕ). set x (to + i) (getD x (from + i) 0)) e
+    ∙ ap (λ (x : ℕ). set (withPart to i l (part from i l)) (to + i) x) (slide-reads l from to i n p q h)
+    ∙ slide-more l from to i n p q h
+
+pub slide-start : (l : List ℕ) (from to : ℕ) → l ≡ withPart to 0 l (part from 0 l)
+slide-start l from to = sym (take-append-drop to l)
+
+pub slide-end : (l s : List ℕ) (from to i n : ℕ) → i ≤ n → n ≤ i → s ≡ withPart to i l (part from i l) → s ≡ withPart to n l (part from n l)
+slide-end l s from to i n p q e = let h : i ≡ n = omega arith in e ∙ ap (λ (k : ℕ). withPart to k l (part from k l)) h
+
+-- `clear`: the part from a place to the end
+pub clear-end : (a : ℕ) (l ys : List ℕ) → a ≤ length l → ys ≡ replicate (length (take (length l - a) (drop a l))) 0
+    → withPart a (length l - a) l ys ≡ take a l ++ replicate (length l - a) 0
+clear-end a l ys h e =
+    let k : length (drop a l) ≡ length l - a = length-drop a l in
+    let k₁ : length (drop a l) ≤ length l - a = omega arith in
+    let k₂ : take (length l - a) (drop a l) ≡ drop a l = take-all (length l - a) (drop a l) k₁ in
+    ap (λ (x : List ℕ). take a l ++ (ys ++ x)) (drop-of-length-le (drop a l) k₁)
+    ∙ ap (λ (x : List ℕ). take a l ++ x) (append-nil ys)
+    ∙ ap (λ (x : List ℕ). take a l ++ x) (e ∙ ap (λ (x : List ℕ). replicate (length x) 0) k₂ ∙ ap (λ (x : ℕ). replicate x 0) k)
+
+-- two stores keep the length
+pub length-set-set : (l x : List ℕ) (i a j b : ℕ) → length x ≡ length (set (set l i a) j b) → length x ≡ length l
+length-set-set l x i a j b e = e ∙ length-set (set l i a) j b ∙ length-set l i a
+
+-- a lent part that comes back
+pub lent-back : (a e k : ℕ) (l ys zs : List ℕ) → e ≡ a + k → ys ≡ zs → withPart a (e - a) l ys ≡ withPart a k l zs
+lent-back a e k l ys zs h q =
+    let d : e - a ≡ k = omega arith in
+    ap (λ (n : ℕ). withPart a n l ys) d ∙ ap (λ (x : List ℕ). withPart a k l x) q
+
+-- a list with another part from a to b: up to b, from b on, in all
+module _ (a k b : ℕ) (l x ys : List ℕ) (h : a + k ≤ length l) (q : length ys ≡ k) (n : b ≡ a + k) (e : x ≡ withPart a k l ys) where
+  front-length : length (take a l ++ ys) ≡ b
+  front-length =
+      let ha : a ≤ length l = omega arith in
+      length-append (take a l) ys ∙ ap (λ (m : ℕ). m + length ys) (length-take-le a l ha) ∙ ap (λ (m : ℕ). a + m) q ∙ sym n
+
+  apart : x ≡ take a l ++ ys ++ drop k (drop a l)
+  apart = e ∙ sym (append-assoc (take a l) ys (drop k (drop a l)))
+
+  pub with-take : take b x ≡ take a l ++ ys
+  with-take = ap (λ (z : List ℕ). take b z) apart ∙ take-at (take a l ++ ys) (drop k (drop a l)) b front-length
+
+  pub with-drop : drop b x ≡ drop b l
+  with-drop =
+      ap (λ (z : List ℕ). drop b z) apart ∙ drop-at (take a l ++ ys) (drop k (drop a l)) b front-length
+      ∙ drop-drop k a l ∙ ap (λ (m : ℕ). drop m l) (sym n)
+
+  pub with-length : length x ≡ length l
+  with-length =
+      let d : length (drop k (drop a l)) ≡ length l - a - k = length-drop k (drop a l) ∙ ap (λ (m : ℕ). m - k) (length-drop a l) in
+      let f : length (take a l ++ ys) ≡ b = front-length in
+      let g : length x ≡ length (take a l ++ ys) + length (drop k (drop a l)) = ap (λ (z : List ℕ). length z) apart ∙ length-append (take a l ++ ys) (drop k (drop a l)) in
+      omega arith
+
+pub lent-length : (a k : ℕ) (l : List ℕ) → a + k ≤ length l → length (take (a + k - a) (drop a l)) ≡ k
+lent-length a k l h =
+    let d : a + k - a ≡ k = omega arith in
+    let g : k ≤ length (drop a l) = rw (length-drop a l) (omega arith) in
+    ap (λ (n : ℕ). length (take n (drop a l))) d ∙ length-take-le k (drop a l) g

@@ -1,0 +1,143 @@
+-- Laws of a survey: one row more, and the turns of the loop over rows.
+use Prim.Native.Nat.{ℕ, _+_, _*_, _-_, _≤_, _<_, max}
+use native.Mathlib.Omega.{arith}
+use mathlib.Core.Path.{_≡_, refl, sym, ap, _∙_}
+use mathlib.Core.Bool.{Bool, true, false, _&&_}
+use mathlib.Core.List.{List, [], _∷_}
+use lib.ListN.{length}
+use lib.Dec.{eqb}
+use Rattle.record.specs.Rows.{rowAt, rows, consIf, keep}
+use Rattle.record.specs.Record.{pageOf, ownerOf, numberOf, committed, onPage, committedOn, lesser, smallest, greatest}
+use Rattle.table.specs.declared.page.Survey.{Survey}
+use Rattle.table.specs.Seen.{Seen, Surveyed}
+use Rattle.table.proofs.Laws.{keep-rows-more, keep-rows-end, rows-start, count-start, count-end}
+
+keep-one : (b : List ℕ → Bool) (x : List ℕ) (z : Bool) → b x ≡ z → keep b (x ∷ []) ≡ consIf z x []
+unfolding keep
+keep-one b x z e = ap (λ (w : Bool). consIf w x []) e
+
+seen-by : (s r : Survey) (p : ℕ) (x : List ℕ) (u v : Bool) → onPage p x ≡ u → committedOn p x ≡ v
+    → r .all ≡ s .all + length (consIf u x []) → r .committed ≡ s .committed + length (consIf v x [])
+    → r .least ≡ smallest (s .least) (consIf v x []) → r .most ≡ greatest (s .most) (consIf v x []) → Seen s p x r
+seen-by s r p x u v ue ve ae ce le me =
+    record
+      { all = ae ∙ ap (λ (l : List (List ℕ)). s .all + length l) (sym (keep-one (onPage p) x u ue))
+      ; committed = ce ∙ ap (λ (l : List (List ℕ)). s .committed + length l) (sym (keep-one (committedOn p) x v ve))
+      ; least = le ∙ ap (λ (l : List (List ℕ)). smallest (s .least) l) (sym (keep-one (committedOn p) x v ve))
+      ; most = me ∙ ap (λ (l : List (List ℕ)). greatest (s .most) l) (sym (keep-one (committedOn p) x v ve))
+      }
+
+-- a row of another page
+pub seen-other : (s : Survey) (p : ℕ) (x : List ℕ) → eqb (pageOf x) p ≡ false → Seen s p x s
+unfolding smallest greatest
+seen-other s p x e = seen-by s s p x false false e (ap (λ (z : Bool). z && committed x) e) (omega arith) (omega arith) refl refl
+
+-- a row of the page that is not committed
+pub seen-open : (s r : Survey) (p : ℕ) (x : List ℕ) → eqb (pageOf x) p ≡ true → eqb (ownerOf x) 0 ≡ false
+    → r .all ≡ s .all + 1 → r .committed ≡ s .committed → r .least ≡ s .least → r .most ≡ s .most → Seen s p x r
+unfolding smallest greatest
+seen-open s r p x e f ae ce le me =
+    seen-by s r p x true false e (ap (λ (z : Bool). z && committed x) e ∙ f) (omega arith) (omega arith) le me
+
+-- a committed row of the page
+pub seen-committed : (s r : Survey) (p : ℕ) (x : List ℕ) → eqb (pageOf x) p ≡ true → eqb (ownerOf x) 0 ≡ true
+    → r .all ≡ s .all + 1 → r .committed ≡ s .committed + 1 → r .least ≡ lesser (s .least) (numberOf x) → r .most ≡ max (s .most) (numberOf x) → Seen s p x r
+unfolding smallest greatest
+seen-committed s r p x e f ae ce le me =
+    seen-by s r p x true true e (ap (λ (z : Bool). z && committed x) e ∙ f) (omega arith) (omega arith) le me
+
+-- the rows up to i are in the survey
+pub record Surveying (p m : ℕ) (t : List ℕ) (s : Survey) (i : ℕ) : Type 0 where
+  pub within : i ≤ m
+  pub all : s .all + length (keep (onPage p) (rows 19 (m - i) t i)) ≡ 0 + length (keep (onPage p) (rows 19 m t 0))
+  pub committed : s .committed + length (keep (committedOn p) (rows 19 (m - i) t i)) ≡ 0 + length (keep (committedOn p) (rows 19 m t 0))
+  pub least : smallest (s .least) (keep (committedOn p) (rows 19 (m - i) t i)) ≡ smallest 0 (keep (committedOn p) (rows 19 m t 0))
+  pub most : greatest (s .most) (keep (committedOn p) (rows 19 (m - i) t i)) ≡ greatest 0 (keep (committedOn p) (rows 19 m t 0))
+  pub fewer : s .committed ≤ s .all
+  pub below : s .all ≤ i
+
+pub survey-none : (p m : ℕ) (t : List ℕ) (s : Survey) → s .all ≡ 0 → s .committed ≡ 0 → s .least ≡ 0 → s .most ≡ 0 → Surveying p m t s 0
+survey-none p m t s ae ce le me =
+    record
+      { within = omega arith
+      ; all = ap (λ (n : ℕ). n + length (keep (onPage p) (rows 19 (m - 0) t 0))) ae ∙ count-start (onPage p) 19 m t 0
+      ; committed = ap (λ (n : ℕ). n + length (keep (committedOn p) (rows 19 (m - 0) t 0))) ce ∙ count-start (committedOn p) 19 m t 0
+      ; least = ap (λ (n : ℕ). smallest n (keep (committedOn p) (rows 19 (m - 0) t 0))) le ∙ ap (λ (l : List (List ℕ)). smallest 0 (keep (committedOn p) l)) (rows-start 19 m t)
+      ; most = ap (λ (n : ℕ). greatest n (keep (committedOn p) (rows 19 (m - 0) t 0))) me ∙ ap (λ (l : List (List ℕ)). greatest 0 (keep (committedOn p) l)) (rows-start 19 m t)
+      ; fewer = omega arith
+      ; below = omega arith
+      }
+
+-- a row in front, and those after it
+length-cut : (z : Bool) (x : List ℕ) (l : List (List ℕ)) (n : ℕ) → n + length (consIf z x []) + length l ≡ n + length (consIf z x l)
+length-cut true x l n = omega arith
+length-cut false x l n = omega arith
+
+smallest-cut : (z : Bool) (x : List ℕ) (l : List (List ℕ)) (n : ℕ) → smallest (smallest n (consIf z x [])) l ≡ smallest n (consIf z x l)
+unfolding smallest
+smallest-cut true x l n = refl
+smallest-cut false x l n = refl
+
+greatest-cut : (z : Bool) (x : List ℕ) (l : List (List ℕ)) (n : ℕ) → greatest (greatest n (consIf z x [])) l ≡ greatest n (consIf z x l)
+unfolding greatest
+greatest-cut true x l n = refl
+greatest-cut false x l n = refl
+
+fewer-one : (u v : Bool) (x : List ℕ) → length (consIf (u && v) x []) ≤ length (consIf u x [])
+fewer-one true true x = omega arith
+fewer-one true false x = omega arith
+fewer-one false v x = omega arith
+
+one-at-most : (u : Bool) (x : List ℕ) → length (consIf u x []) ≤ 1
+one-at-most true x = omega arith
+one-at-most false x = omega arith
+
+module _ (b : List ℕ → Bool) (m : ℕ) (t : List ℕ) (i n k : ℕ) (lt : i < m) where
+  count-cut : k ≡ n + length (keep b (rowAt 19 t i ∷ [])) → k + length (keep b (rows 19 (m - (i + 1)) t (i + 1))) ≡ n + length (keep b (rows 19 (m - i) t i))
+  count-cut e =
+      let l : List (List ℕ) = keep b (rows 19 (m - (i + 1)) t (i + 1)) in
+      ap (λ (q : ℕ). q + length l) (e ∙ ap (λ (q : List (List ℕ)). n + length q) (keep-one b (rowAt 19 t i) (b (rowAt 19 t i)) refl))
+      ∙ length-cut (b (rowAt 19 t i)) (rowAt 19 t i) l n ∙ ap (λ (q : List (List ℕ)). n + length q) (sym (keep-rows-more b 19 m t i lt))
+
+  least-cut : k ≡ smallest n (keep b (rowAt 19 t i ∷ [])) → smallest k (keep b (rows 19 (m - (i + 1)) t (i + 1))) ≡ smallest n (keep b (rows 19 (m - i) t i))
+  least-cut e =
+      let l : List (List ℕ) = keep b (rows 19 (m - (i + 1)) t (i + 1)) in
+      ap (λ (q : ℕ). smallest q l) (e ∙ ap (λ (q : List (List ℕ)). smallest n q) (keep-one b (rowAt 19 t i) (b (rowAt 19 t i)) refl))
+      ∙ smallest-cut (b (rowAt 19 t i)) (rowAt 19 t i) l n ∙ ap (λ (q : List (List ℕ)). smallest n q) (sym (keep-rows-more b 19 m t i lt))
+
+  most-cut : k ≡ greatest n (keep b (rowAt 19 t i ∷ [])) → greatest k (keep b (rows 19 (m - (i + 1)) t (i + 1))) ≡ greatest n (keep b (rows 19 (m - i) t i))
+  most-cut e =
+      let l : List (List ℕ) = keep b (rows 19 (m - (i + 1)) t (i + 1)) in
+      ap (λ (q : ℕ). greatest q l) (e ∙ ap (λ (q : List (List ℕ)). greatest n q) (keep-one b (rowAt 19 t i) (b (rowAt 19 t i)) refl))
+      ∙ greatest-cut (b (rowAt 19 t i)) (rowAt 19 t i) l n ∙ ap (λ (q : List (List ℕ)). greatest n q) (sym (keep-rows-more b 19 m t i lt))
+
+pub survey-more : (p m : ℕ) (t : List ℕ) (s : Survey) (i : ℕ) (r : Survey) → Surveying p m t s i → i < m → Seen s p (rowAt 19 t i) r → Surveying p m t r (i + 1)
+survey-more p m t s i r inv lt e =
+    let x : List ℕ = rowAt 19 t i in
+    let ka : length (keep (onPage p) (x ∷ [])) ≡ length (consIf (eqb (pageOf x) p) x []) = ap (λ (l : List (List ℕ)). length l) (keep-one (onPage p) x (eqb (pageOf x) p) refl) in
+    let kc : length (keep (committedOn p) (x ∷ [])) ≡ length (consIf (eqb (pageOf x) p && committed x) x []) = ap (λ (l : List (List ℕ)). length l) (keep-one (committedOn p) x (eqb (pageOf x) p && committed x) refl) in
+    let f : length (consIf (eqb (pageOf x) p && committed x) x []) ≤ length (consIf (eqb (pageOf x) p) x []) = fewer-one (eqb (pageOf x) p) (committed x) x in
+    let o : length (consIf (eqb (pageOf x) p) x []) ≤ 1 = one-at-most (eqb (pageOf x) p) x in
+    record
+      { within = omega arith
+      ; all = count-cut (onPage p) m t i (s .all) (r .all) lt (e .all) ∙ inv .all
+      ; committed = count-cut (committedOn p) m t i (s .committed) (r .committed) lt (e .committed) ∙ inv .committed
+      ; least = least-cut (committedOn p) m t i (s .least) (r .least) lt (e .least) ∙ inv .least
+      ; most = most-cut (committedOn p) m t i (s .most) (r .most) lt (e .most) ∙ inv .most
+      ; fewer = omega (arith, e .all, e .committed, inv .fewer)
+      ; below = omega (arith, e .all, inv .below)
+      }
+
+pub survey-all : (p m : ℕ) (t : List ℕ) (s : Survey) (i : ℕ) → Surveying p m t s i → m ≤ i → Surveyed p m t s
+unfolding smallest greatest
+survey-all p m t s i inv q =
+    let ae : s .all ≡ 0 + length (keep (onPage p) (rows 19 m t 0)) = count-end (onPage p) 19 m t i (s .all) _ q (inv .all) in
+    let ce : s .committed ≡ 0 + length (keep (committedOn p) (rows 19 m t 0)) = count-end (committedOn p) 19 m t i (s .committed) _ q (inv .committed) in
+    record
+      { all = omega arith
+      ; committed = omega arith
+      ; least = ap (λ (l : List (List ℕ)). smallest (s .least) l) (sym (keep-rows-end (committedOn p) 19 m t i q)) ∙ inv .least
+      ; most = ap (λ (l : List (List ℕ)). greatest (s .most) l) (sym (keep-rows-end (committedOn p) 19 m t i q)) ∙ inv .most
+      ; fewer = inv .fewer
+      ; below = omega (arith, inv .below, inv .within)
+      }

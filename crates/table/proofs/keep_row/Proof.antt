@@ -1,0 +1,46 @@
+-- A row that is gone is passed; one that stays is moved.
+use mathlib.Core.Path.{refl, sym, _∙_}
+use borrow.Author.Needs.{needs}
+use Rattle.table.proofs.keep_row.Statement.{statement}
+use Rattle.table.proofs.keep_row.Tie as tie
+
+is-gone-requires : tie.Need-is-gone-requires
+is-gone-requires c κs = search needs
+
+same-length : tie.Need-same-length
+same-length c = search needs
+
+returns : tie.Need-returns
+returns c = rw (sym (c .before .is-gone .ensures) ∙ c .if1 .taken) (refl, refl)
+
+mul-slide : tie.Need-mul-slide
+mul-slide c = search needs
+
+mul-slide-2 : tie.Need-mul-slide-2
+mul-slide-2 c = search needs
+
+slide-requires : tie.Need-slide-requires
+slide-requires c κs = search needs
+
+add-result : tie.Need-add-result
+add-result c = search needs
+
+same-length-2 : tie.Need-same-length-2
+same-length-2 c = search needs
+
+returns-2 : tie.Need-returns-2
+returns-2 c = rw (sym (c .before .before .before .before .before .is-gone .ensures) ∙ c .before .before .before .before .if1 .left) (c .before .before .slide .ensures, refl)
+
+pub keep-row-spec : {M : Type 1} → statement M
+keep-row-spec =
+    tie.close
+    (tie.spec
+    is-gone-requires
+    same-length
+    returns
+    mul-slide
+    mul-slide-2
+    slide-requires
+    add-result
+    same-length-2
+    returns-2)

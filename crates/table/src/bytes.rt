@@ -1,0 +1,49 @@
+// Bytes written, copied and moved within a slice.
+ghost use mathlib.Core.Path.{_≡_};
+ghost use mathlib.Core.List.{_++_};
+ghost use Prim.Native.Nat.{_+_, _-_, _≤_};
+ghost use lib.ListN.{length, take, drop, replicate};
+ghost use Rattle.record.specs.Part.{part, withPart};
+
+// Zeros, all of it.
+pub fn wipe(s: &mut [u8])
+    ensures { λ r. ⌜ now (s .exit) ≡ replicate (length (now (s .entry))) 0 ⌝ }
+{
+    let mut i = 0;
+    while i < s.len() {
+        s[i] = 0;
+        i += 1;
+    }
+}
+
+// Zeros from a place to the end.
+pub fn clear(s: &mut [u8], from: usize)
+    requires { ⌜ from ≤ length (now s) ⌝ }
+    ensures { λ r. ⌜ now (s .exit) ≡ take from (now (s .entry)) ++ replicate (length (now (s .entry)) - from) 0 ⌝ }
+{
+    wipe(&mut s[from..]);
+}
+
+// The bytes of s at the front of d.
+pub fn copy(d: &mut [u8], s: &[u8])
+    requires { ⌜ length (now s) ≤ length (now d) ⌝ }
+    ensures { λ r. ⌜ now (d .exit) ≡ now (s .entry) ++ drop (length (now (s .entry))) (now (d .entry)) ⌝ }
+{
+    let mut i = 0;
+    while i < s.len() {
+        d[i] = s[i];
+        i += 1;
+    }
+}
+
+// The n bytes at a place moved down to another; the two may overlap.
+pub fn slide(s: &mut [u8], from: usize, to: usize, n: usize)
+    requires { ⌜ (to ≤ from) × (from + n ≤ length (now s)) ⌝ }
+    ensures { λ r. ⌜ now (s .exit) ≡ withPart to n (now (s .entry)) (part from n (now (s .entry))) ⌝ }
+{
+    let mut i = 0;
+    while i < n {
+        s[to + i] = s[from + i];
+        i += 1;
+    }
+}

@@ -1,0 +1,234 @@
+// Tables of rows, worked on in place: the online table, of 19 bytes a row, and the log, of 14.
+mod bytes;
+pub mod page;
+
+use number::LogNo;
+use number::PageNo;
+use page::Survey;
+
+ghost use mathlib.Core.Path.{_≡_};
+ghost use mathlib.Core.Bool.{true, cond};
+ghost use mathlib.Core.List.{_∷_, _++_, [], map};
+ghost use Prim.Native.Nat.{ℕ, _+_, _*_, _^_, _≤_, _<_};
+ghost use lib.ListN.{length, take, drop, set, replicate};
+ghost use Rattle.word.specs.Word.{put};
+ghost use Rattle.record.specs.Part.{withPart};
+ghost use Rattle.record.specs.Rows.{rowAt, rows, joined, table, keep};
+ghost use Rattle.record.specs.Record.{ownedBy, bodyOf, rowOf, entered, numbered, numberRows, gone};
+ghost use Rattle.table.specs.Stays.{stays};
+ghost use Rattle.table.specs.Seen.{Surveyed};
+
+// How many of the first m rows are the owner's.
+pub fn count_owned(t: &[u8], m: usize, owner: u8) -> usize
+    requires { ⌜ m * 19 ≤ length (now t) ⌝ }
+    ensures { λ r. ⌜ (r ≡ length (keep (ownedBy owner) (rows 19 m (now (t .entry)) 0))) × (r ≤ m) ⌝ }
+{
+    let mut n = 0;
+    let mut i = 0;
+    while i < m {
+        if record::owner_of(t, i) == owner {
+            n += 1;
+        }
+        i += 1;
+    }
+    n
+}
+
+// A row of zeros but for page and offset.
+fn place_row(row: &mut [u8], page: PageNo, offset: usize)
+    requires { ⌜ length (now row) ≡ 19 ⌝ }
+    ensures { λ r. ⌜ now (row .exit) ≡ put 2 (put 2 (replicate 19 0) 0 (page .0)) 2 offset ⌝ }
+{
+    bytes::wipe(row);
+    word::store(row, 0, 2, page.0 as u64);
+    word::store(row, 2, 2, offset as u64);
+}
+
+// The other fields of an update.
+fn change_row(row: &mut [u8], w: usize, kind: u8, v: u64, owner: u8)
+    requires { ⌜ (length (now row) ≡ 19) × (w < 256) ⌝ }
+    ensures { λ r. ⌜ now (row .exit) ≡ set (put 8 (set (set (now (row .entry)) 4 w) 5 kind) 6 v) 14 owner ⌝ }
+{
+    row[4] = w as u8;
+    row[5] = kind;
+    word::store(row, 6, 8, v);
+    row[14] = owner;
+}
+
+// An update's record as a row.
+fn fill_row(row: &mut [u8], page: PageNo, offset: usize, w: usize, kind: u8, v: u64, owner: u8)
+    requires { ⌜ (length (now row) ≡ 19) × (w < 256) ⌝ }
+    ensures { λ r. ⌜ now (row .exit) ≡ rowOf (page .0) offset w kind v owner ⌝ }
+{
+    place_row(row, page, offset);
+    change_row(row, w, kind, v, owner);
+}
+
+// An update's record in row m.
+pub fn append(t: &mut [u8], m: usize, page: PageNo, offset: usize, w: usize, kind: u8, v: u64, owner: u8)
+    requires { ⌜ (m * 19 + 19 ≤ length (now t)) × (page .0 < 65536) × (offset < 65536) × (w < 256) ⌝ }
+    ensures { λ r. ⌜ now (t .exit) ≡ withPart (m * 19) 19 (now (t .entry)) (rowOf (page .0) offset w kind v owner) ⌝ }
+{
+    let a = m * 19;
+    let e = a + 19;
+    fill_row(&mut t[a..e], page, offset, w, kind, v, owner);
+}
+
+// The bytes of a log row, under its number, as a committed row.
+fn enter_row(row: &mut [u8], b: &[u8], k: LogNo)
+    requires { ⌜ (length (now row) ≡ 19) × (length (now b) ≡ 14) ⌝ }
+    ensures { λ r. ⌜ now (row .exit) ≡ entered (now (b .entry)) (k .0) ⌝ }
+{
+    bytes::wipe(row);
+    bytes::copy(row, b);
+    word::store(row, 15, 4, k.0);
+}
+
+// Row i of the log in row m, committed under the number k.
+pub fn enter(t: &mut [u8], m: usize, log: &[u8], i: usize, k: LogNo)
+    requires { ⌜ (m * 19 + 19 ≤ length (now t)) × (i * 14 + 14 ≤ length (now log)) ⌝ }
+    ensures { λ r. ⌜ now (t .exit) ≡ withPart (m * 19) 19 (now (t .entry)) (entered (rowAt 14 (now (log .entry)) i) (k .0)) ⌝ }
+{
+    let a = m * 19;
+    let e = a + 19;
+    let f = i * 14;
+    let g = f + 14;
+    enter_row(&mut t[a..e], &log[f..g], k);
+}
+
+// A row of the owner's committed under a number; the next number.
+fn number_row(row: &mut [u8], owner: u8, k: u64) -> u64
+    requires { ⌜ (length (now row) ≡ 19) × (k < 2 ^ 63) ⌝ }
+    ensures { λ r. ⌜ (now (row .exit) ≡ cond (ownedBy owner (now (row .entry))) (numbered (now (row .entry)) k) (now (row .entry))) × (r ≡ cond (ownedBy owner (now (row .entry))) (k + 1) k) ⌝ }
+{
+    if row[14] != owner {
+        return k;
+    }
+    row[14] = 0;
+    word::store(row, 15, 4, k);
+    k + 1
+}
+
+// The owner's rows of the first m committed, with numbers from `next` on in table order; the number after the last.
+pub fn number_rows(t: &mut [u8], m: usize, owner: u8, next: u64) -> u64
+    requires { ⌜ (m * 19 ≤ length (now t)) × (next + m < 2 ^ 63) ⌝ }
+    ensures { λ r. ⌜ (now (t .exit) ≡ joined (numberRows owner next (rows 19 m (now (t .entry)) 0)) ++ drop (m * 19) (now (t .entry))) × (r ≡ next + length (keep (ownedBy owner) (rows 19 m (now (t .entry)) 0))) ⌝ }
+{
+    let mut k = next;
+    let mut j = 0;
+    while j < m {
+        let a = j * 19;
+        let e = a + 19;
+        k = number_row(&mut t[a..e], owner, k);
+        j += 1;
+    }
+    k
+}
+
+// The record of row j of t, if it is the owner's, in row k of the log; the next row of the log.
+fn log_row(log: &mut [u8], k: usize, t: &[u8], j: usize, owner: u8) -> usize
+    requires { ⌜ (j * 19 + 19 ≤ length (now t)) × (ownedBy owner (rowAt 19 (now t) j) ≡ true → k * 14 + 14 ≤ length (now log)) ⌝ }
+    ensures { λ r. ⌜ (now (log .exit) ≡ cond (ownedBy owner (rowAt 19 (now (t .entry)) j)) (withPart (k * 14) 14 (now (log .entry)) (bodyOf (rowAt 19 (now (t .entry)) j))) (now (log .entry))) × (r ≡ cond (ownedBy owner (rowAt 19 (now (t .entry)) j)) (k + 1) k) ⌝ }
+{
+    if record::owner_of(t, j) != owner {
+        return k;
+    }
+    let a = k * 14;
+    let e = a + 14;
+    let f = j * 19;
+    let g = f + 14;
+    bytes::copy(&mut log[a..e], &t[f..g]);
+    k + 1
+}
+
+// The records of the owner's rows of the first m after the n rows of the log, in table order; how many rows the log then has.
+pub fn append_log(log: &mut [u8], n: usize, t: &[u8], m: usize, owner: u8) -> usize
+    requires { ⌜ (m * 19 ≤ length (now t)) × (n * 14 + length (keep (ownedBy owner) (rows 19 m (now t) 0)) * 14 ≤ length (now log)) ⌝ }
+    ensures { λ r. ⌜ (now (log .exit) ≡ take (n * 14) (now (log .entry)) ++ (joined (map bodyOf (keep (ownedBy owner) (rows 19 m (now (t .entry)) 0))) ++ drop ((n + length (keep (ownedBy owner) (rows 19 m (now (t .entry)) 0))) * 14) (now (log .entry)))) × (r ≡ n + length (keep (ownedBy owner) (rows 19 m (now (t .entry)) 0))) ⌝ }
+{
+    let mut k = n;
+    let mut j = 0;
+    while j < m {
+        k = log_row(log, k, t, j, owner);
+        j += 1;
+    }
+    k
+}
+
+// Whether row j is one to delete.
+fn is_gone(t: &[u8], j: usize, whole: bool, owner: u8, p: PageNo) -> bool
+    requires { ⌜ j * 19 + 19 ≤ length (now t) ⌝ }
+    ensures { λ r. ⌜ r ≡ gone whole owner (p .0) (rowAt 19 (now (t .entry)) j) ⌝ }
+{
+    let owned = record::owner_of(t, j) == owner;
+    if whole {
+        return owned;
+    }
+    let q = record::page_of(t, 19, j);
+    (q.0 == p.0) & owned
+}
+
+// Row j, if it stays, moved down to row k; the next row to move to.
+fn keep_row(t: &mut [u8], k: usize, j: usize, whole: bool, owner: u8, p: PageNo) -> usize
+    requires { ⌜ (k ≤ j) × (j * 19 + 19 ≤ length (now t)) ⌝ }
+    ensures { λ r. ⌜ (now (t .exit) ≡ cond (stays whole owner (p .0) (rowAt 19 (now (t .entry)) j)) (withPart (k * 19) 19 (now (t .entry)) (rowAt 19 (now (t .entry)) j)) (now (t .entry))) × (r ≡ cond (stays whole owner (p .0) (rowAt 19 (now (t .entry)) j)) (k + 1) k) ⌝ }
+{
+    if is_gone(t, j, whole, owner, p) {
+        return k;
+    }
+    bytes::slide(t, j * 19, k * 19, 19);
+    k + 1
+}
+
+// The rows of the first m that stay, moved to the front; how many. What stands after them is left over.
+fn squeeze(t: &mut [u8], m: usize, whole: bool, owner: u8, p: PageNo) -> usize
+    requires { ⌜ m * 19 ≤ length (now t) ⌝ }
+    ensures { λ r. ⌜ (take (r * 19) (now (t .exit)) ≡ joined (keep (stays whole owner (p .0)) (rows 19 m (now (t .entry)) 0))) × (r ≡ length (keep (stays whole owner (p .0)) (rows 19 m (now (t .entry)) 0))) × (r ≤ m) ⌝ }
+{
+    let mut k = 0;
+    let mut j = 0;
+    while j < m {
+        k = keep_row(t, k, j, whole, owner, p);
+        j += 1;
+    }
+    k
+}
+
+// The owner's rows of the first m deleted, all or those of one page; how many rows are left. The rest of the table is zero.
+pub fn delete(t: &mut [u8], m: usize, size: usize, whole: bool, owner: u8, p: PageNo) -> usize
+    requires { ⌜ (length (now t) ≡ size * 19) × (m ≤ size) ⌝ }
+    ensures { λ r. ⌜ (now (t .exit) ≡ table 19 size (keep (stays whole owner (p .0)) (rows 19 m (now (t .entry)) 0))) × (r ≡ length (keep (stays whole owner (p .0)) (rows 19 m (now (t .entry)) 0))) ⌝ }
+{
+    let k = squeeze(t, m, whole, owner, p);
+    bytes::clear(t, k * 19);
+    k
+}
+
+// The first d of the n rows of the log dropped. The rest of the log is zero.
+pub fn shift(t: &mut [u8], n: usize, size: usize, d: usize)
+    requires { ⌜ (length (now t) ≡ size * 14) × (n ≤ size) × (d ≤ n) ⌝ }
+    ensures { λ r. ⌜ now (t .exit) ≡ table 14 size (drop d (rows 14 n (now (t .entry)) 0)) ⌝ }
+{
+    let k = (n - d) * 14;
+    bytes::slide(t, d * 14, 0, k);
+    bytes::clear(t, k);
+}
+
+// The rows of page p among the first m.
+pub fn survey(t: &[u8], m: usize, p: PageNo) -> Survey
+    requires { ⌜ m * 19 ≤ length (now t) ⌝ }
+    ensures { λ r. ⌜ Surveyed (p .0) m (now (t .entry)) r ⌝ }
+{
+    let mut s = Survey {
+        all: 0,
+        committed: 0,
+        least: 0,
+        most: 0,
+    };
+    let mut i = 0;
+    while i < m {
+        s = page::look(s, t, i, p);
+        i += 1;
+    }
+    s
+}
