@@ -35,7 +35,7 @@ mid-put l ys zs a k e h q =
     rw (d, q)
 
 -- a test that all pass, at a place
-and-both : (a b : Bool) → (a && b) ≡ true → (a ≡ true) × (b ≡ true)
+pub and-both : (a b : Bool) → (a && b) ≡ true → (a ≡ true) × (b ≡ true)
 and-both true b h = (refl, h)
 and-both false b h = let z : _≡_ {A = ℕ} 0 1 = cc in absurd (omega arith)
 

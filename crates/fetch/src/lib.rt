@@ -1,20 +1,21 @@
 // Fetch, read and update: a page comes into a frame, is read there, is changed there.
 // Every function is lent all seven areas, so that its contract speaks of the whole of them.
 ghost use mathlib.Core.Path.{_≡_};
-ghost use mathlib.Core.Bool.{cond};
+ghost use mathlib.Core.Bool.{true, cond};
 ghost use mathlib.Core.List.{_++_};
 ghost use Prim.Native.Nat.{ℕ, _+_, _*_, _≤_, _<_};
-ghost use lib.ListN.{length, getD, drop};
+ghost use lib.ListN.{length, getD, drop, set};
 ghost use Rattle.word.specs.Word.{num};
 ghost use Rattle.record.specs.Part.{part};
-ghost use Rattle.record.specs.Rows.{rows, keep};
-ghost use Rattle.record.specs.Record.{onPage, applied};
+ghost use Rattle.record.specs.Rows.{rowAt, rows, keep};
+ghost use Rattle.record.specs.Record.{onPage, apply, applied, rowOf};
 ghost use Rattle.order.specs.Order.{touched};
 ghost use Rattle.order.specs.Meant.{listOf};
-ghost use Rattle.rules.specs.Lent.{lentOf, sizeOf, pagesOf, framesOf, orderOf, entriesOf, entryAt, pageIn, withPage, withOrder, withEntries};
+ghost use Rattle.rules.specs.Lent.{lentOf, sizeOf, pagesOf, framesOf, roomOf, countOf, orderOf, entriesOf, entryAt, dirtyIn, pageIn, withPage, withOrder, withEntries, withCount};
+ghost use Rattle.rules.specs.Sound.{zeros};
 ghost use Rattle.rules.specs.Shape.{Shaped};
-ghost use Rattle.rules.specs.Steps.{placed, rebuilt, readTables};
-ghost use Rattle.fetch.specs.Post.{SizesRead, PageBrought, PageFetched, PageUsed, ReadDone};
+ghost use Rattle.rules.specs.Steps.{placed, readTables, updateTables};
+ghost use Rattle.fetch.specs.Post.{SizesRead, PageBrought, PageFetched, PageUsed, ReadDone, UpdateDone};
 use number::FrameNo;
 use number::PageNo;
 use order::Order;
@@ -210,5 +211,87 @@ pub fn read(
     let got = use_page(fixed, marks, log, stored, tables, online, pool, p);
     let f = got.frame;
     copy_out(pool, size, f, offset, w, buffer);
+    got.reads
+}
+
+// Page p is dirty in frame f.
+fn mark_dirty(tables: &mut [u8], frames: usize, f: FrameNo, p: PageNo)
+    requires { ⌜ (entryAt frames (p .0) < length (now tables)) × (f .0 < 64) ⌝ }
+    ensures { λ r. ⌜ now (tables .exit) ≡ set (now (tables .entry)) (entryAt frames (p .0)) (dirtyIn (f .0)) ⌝ }
+{
+    let at = 35 + frames + p.0;
+    tables[at] = (2 * (f.0 + 1) + 1) as u8;
+}
+
+// Page p in frame f has one online record more, and the frame becomes the latest used.
+fn note_change(tables: &mut [u8], frames: usize, order: Order, f: FrameNo, p: PageNo, m: usize)
+    requires { ⌜ (entryAt frames (p .0) < length (now tables)) × (frames ≤ 64) × (order .used ≤ 64) × (f .0 < 64) × (m < 65536) ⌝ }
+    ensures { λ r. ⌜ now (tables .exit) ≡ withCount (m + 1) (withOrder frames (touched (f .0) (listOf order)) (set (now (tables .entry)) (entryAt frames (p .0)) (dirtyIn (f .0)))) ⌝ }
+{
+    mark_dirty(tables, frames, f, p);
+    make_latest(tables, frames, order, f);
+    word::store(tables, 0, 2, (m + 1) as u64);
+}
+
+// Page p in a frame, which becomes the latest used, and dirty there, with one online record more.
+fn change_page(
+    fixed: &[u8],
+    marks: &[u8],
+    log: &[u8],
+    stored: &[u8],
+    tables: &mut [u8],
+    online: &[u8],
+    pool: &mut [u8],
+    p: PageNo,
+) -> Fetched
+    requires { ⌜ Shaped (lentOf (now fixed) (now marks) (now log) (now stored) (now tables) (now online) (now pool)) × (p .0 < pagesOf (lentOf (now fixed) (now marks) (now log) (now stored) (now tables) (now online) (now pool))) ⌝ }
+    ensures { λ r. ⌜ PageUsed (lentOf (now (fixed .entry)) (now (marks .entry)) (now (log .entry)) (now (stored .entry)) (now (tables .entry)) (now (online .entry)) (now (pool .entry))) (p .0) (r .frame .0) (r .reads) (now (tables .exit)) (now (pool .exit)) (updateTables (lentOf (now (fixed .entry)) (now (marks .entry)) (now (log .entry)) (now (stored .entry)) (now (tables .entry)) (now (online .entry)) (now (pool .entry))) (p .0)) ⌝ }
+{
+    let s = load_sizes(fixed);
+    let frames = s.frames;
+    let m = count_of(tables);
+    let order = frames::load_order(tables, frames);
+    let got = fetch(fixed, marks, log, stored, tables, online, pool, order, p);
+    let f = got.frame;
+    note_change(tables, frames, order, f, p, m);
+    got
+}
+
+// Online row m, applied to the page in frame f: the frame's bytes, lent on by themselves.
+fn apply_in(pool: &mut [u8], size: usize, f: FrameNo, online: &[u8], m: usize)
+    requires { ⌜ (f .0 * size + size ≤ length (now pool)) × (m * 19 + 19 ≤ length (now online)) ⌝ }
+    ensures { λ r. ⌜ now (pool .exit) ≡ withPage size (f .0) (now (pool .entry)) (apply (rowAt 19 (now (online .entry)) m) (pageIn size (f .0) (now (pool .entry)))) ⌝ }
+{
+    let a = f.0 * size;
+    let e = a + size;
+    apply::apply_row(online, 19, m, &mut pool[a..e]);
+}
+
+// An owner's change of w bytes at an offset of page p: recorded, and made in the page's frame.
+pub fn update(
+    fixed: &[u8],
+    marks: &[u8],
+    log: &[u8],
+    stored: &[u8],
+    tables: &mut [u8],
+    online: &mut [u8],
+    pool: &mut [u8],
+    p: PageNo,
+    offset: usize,
+    w: usize,
+    kind: u8,
+    v: u64,
+    owner: u8,
+) -> u32
+    requires { ⌜ Shaped (lentOf (now fixed) (now marks) (now log) (now stored) (now tables) (now online) (now pool)) × (p .0 < pagesOf (lentOf (now fixed) (now marks) (now log) (now stored) (now tables) (now online) (now pool))) × (offset + w ≤ sizeOf (lentOf (now fixed) (now marks) (now log) (now stored) (now tables) (now online) (now pool))) × (w ≤ 8) × (countOf (lentOf (now fixed) (now marks) (now log) (now stored) (now tables) (now online) (now pool)) < roomOf (lentOf (now fixed) (now marks) (now log) (now stored) (now tables) (now online) (now pool))) × (zeros (drop (countOf (lentOf (now fixed) (now marks) (now log) (now stored) (now tables) (now online) (now pool)) * 19) (now online)) ≡ true) ⌝ }
+    ensures { λ r. ⌜ UpdateDone (lentOf (now (fixed .entry)) (now (marks .entry)) (now (log .entry)) (now (stored .entry)) (now (tables .entry)) (now (online .entry)) (now (pool .entry))) (rowOf (p .0) offset w kind v owner) r (now (tables .exit)) (now (online .exit)) (now (pool .exit)) ⌝ }
+{
+    let s = load_sizes(fixed);
+    let size = s.size;
+    let m = count_of(tables);
+    let got = change_page(fixed, marks, log, stored, tables, online, pool, p);
+    let f = got.frame;
+    table::append(online, m, p, offset, w, kind, v, owner);
+    apply_in(pool, size, f, online, m);
     got.reads
 }
