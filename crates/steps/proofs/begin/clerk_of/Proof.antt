@@ -1,55 +1,54 @@
+-- `steps::begin::clerk_of` meets its contract: the slots passed are the bytes of the live set.
+use Prim.Native.Nat.{_≤_, _-_}
+use mathlib.Core.Path.{_≡_, refl}
+use lib.ListN.{length, take, drop}
+use denote.Ref.{now}
+use Rattle.steps.proofs.Laws.{live-turn, live-done}
 use borrow.Author.Needs.{needs}
 use Rattle.steps.proofs.begin.clerk_of.Statement.{statement}
 use Rattle.steps.proofs.begin.clerk_of.Tie as tie
-use Rattle.steps.proofs.begin.clerk_of.Reads as reads
-use Rattle.steps.proofs.begin.clerk_of.Lts as lts
-use Rattle.word.proofs.load.Reads as load-reads
 
 abbrev Inv-loop : tie.InvT-loop
-Inv-loop marks tables live₀ i₀ live i = ?
+Inv-loop marks tables live₀ i₀ live i = (i ≤ 32) × (length live ≡ 32) × (take i live ≡ take i (drop 3 tables))
 
 abbrev μ-loop : tie.MeasureT-loop
-μ-loop marks tables live₀ i₀ live i = ?
+μ-loop marks tables live₀ i₀ live i = 32 - i
 
--- src/begin.rt:20:5
 loop-holds : tie.Need-loop-holds Inv-loop μ-loop
-loop-holds c = search needs
+loop-holds c = (search needs, refl, refl)
 
--- src/begin.rt:21:26
 add-live : tie.Need-add-live Inv-loop μ-loop
 add-live c = search needs
 
--- src/begin.rt:21:19
 shared-slice-read-live : tie.Need-shared-slice-read-live Inv-loop μ-loop
 shared-slice-read-live c = search needs
 
--- src/begin.rt:21:9
 array-write-live : tie.Need-array-write-live Inv-loop μ-loop
 array-write-live c = search needs
 
--- src/begin.rt:22:9
 add-i : tie.Need-add-i Inv-loop μ-loop
 add-i c = search needs
 
--- src/begin.rt:20:5
 loop-less : tie.Need-loop-less Inv-loop μ-loop
 loop-less c = search needs
 
--- src/begin.rt:20:5
 loop-again : tie.Need-loop-again Inv-loop μ-loop
-loop-again c = search needs
+loop-again c =
+    let o = c .before .before .loop in
+    let t = now (c .before .before .before .before .before .args .tables) in
+    (search needs, search needs, live-turn t (o .live) (o .i) (search needs) (search needs) (search needs) (o .inv .2))
 
--- src/begin.rt:24:16
 load-requires : tie.Need-load-requires Inv-loop μ-loop
 load-requires c κs = search needs
 
--- src/begin.rt:24:16
 cast-last : tie.Need-cast-last Inv-loop μ-loop
 cast-last c = search needs
 
--- src/begin.rt:14:1
 returns : tie.Need-returns Inv-loop μ-loop
-returns c = search needs
+returns c =
+    let o = c .before .before .loop in
+    let t = now (c .before .before .before .before .before .args .tables) in
+    (live-done t (o .live) (o .i) (o .inv .0) (c .before .loop-test .left) (o .inv .1) (o .inv .2), c .load .ensures .0)
 
 pub clerk-of-spec : {M : Type 1} → statement M
 clerk-of-spec =

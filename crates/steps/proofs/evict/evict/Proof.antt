@@ -1,55 +1,58 @@
+-- `steps::evict::evict` meets its contract: the frame leaves the order, and the entry keeps what is dirty of it.
+use Prim.Native.Nat.{_+_, _-_, _/_, _%_}
+use native.Mathlib.Omega.{arith}
+use mathlib.Core.Path.{_∙_}
+use lib.ListN.{getD, set, length-set}
+use denote.Ref.{now}
+use Rattle.record.specs.Part.{part}
+use Rattle.order.specs.Meant.{listOf}
+use Rattle.steps.proofs.Laws.{in-frame, evicted-order}
 use borrow.Author.Needs.{needs}
 use Rattle.steps.proofs.evict.evict.Statement.{statement}
 use Rattle.steps.proofs.evict.evict.Tie as tie
-use Rattle.steps.proofs.evict.evict.Reads as reads
-use Rattle.steps.proofs.evict.evict.Lts as lts
-use Rattle.frames.proofs.load_order.Reads as load-order-reads
-use Rattle.frames.proofs.save_order.Reads as save-order-reads
-use Rattle.order.proofs.Order.free.Reads as free-reads
 
--- src/evict.rt:17:9
 load-order-requires : tie.Need-load-order-requires
 load-order-requires c κs = search needs
 
--- src/evict.rt:18:14
 add-at : tie.Need-add-at
 add-at c = search needs
 
--- src/evict.rt:18:14
 add-at-2 : tie.Need-add-at-2
 add-at-2 c = search needs
 
--- src/evict.rt:19:13
 slice-read-e : tie.Need-slice-read-e
 slice-read-e c = search needs
 
--- src/evict.rt:20:5
 slice-write-tables : tie.Need-slice-write-tables
 slice-write-tables c = search needs
 
--- src/evict.rt:21:13
 cast-f : tie.Need-cast-f
-cast-f c = search needs
+cast-f c =
+    let a = c .before .before .before .before .before .args in
+    omega (arith, c .slice-known2 .given (35 + a .frames + a .p .0))
 
--- src/evict.rt:21:13
 sub-f : tie.Need-sub-f
-sub-f c = search needs
+sub-f c = in-frame _ (c .before .before .before .before .before .pre .3)
 
--- src/evict.rt:22:40
 free-requires : tie.Need-free-requires
 free-requires c κs = search needs
 
--- src/evict.rt:22:5
 save-order-requires : tie.Need-save-order-requires
-save-order-requires c κs = search needs
+save-order-requires c κs =
+    let s = c .before .before .before .before .before .before .before in
+    (simp length-set (omega (arith, s .pre .0)), s .pre .2, omega (arith, c .free .ensures .1, c .before .before .before .before .load-order .ensures .1))
 
--- src/evict.rt:13:1
 same-length : tie.Need-same-length
-same-length c = search needs
+same-length c = c .before .before .save-order .kept .0 ∙ simp length-set
 
--- src/evict.rt:13:1
 returns : tie.Need-returns
-returns c = search needs
+returns c =
+    let a = c .before .before .before .before .before .before .before .before .before .before .args in
+    let t = now (a .tables) in
+    let at = 35 + a .frames + a .p .0 in
+    let o = c .before .before .before .before .before .before .before .load-order in
+    let f = c .before .before .before .free in
+    evicted-order (set t at (getD t at 0 % 2)) (c .before .before .save-order .last .0) (a .frames) (getD t at 0 / 2 - 1) (listOf (f .result)) (listOf (o .result)) (part 35 (getD t 2 0) t) (c .before .before .save-order .ensures) (f .ensures .0) (o .ensures .0)
 
 pub evict-spec : {M : Type 1} → statement M
 evict-spec =
