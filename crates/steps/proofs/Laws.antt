@@ -1,9 +1,9 @@
 -- Laws of the live set in the tables, of an entry's frame, and of an owner's rows.
-use Prim.Native.Nat.{ℕ, zero, suc, _+_, _*_, _-_, _/_, _%_, _≤_, _<_}
+use Prim.Native.Nat.{ℕ, zero, suc, _+_, _-_, _/_, _≤_, _<_}
 use native.Mathlib.Omega.{arith}
 use mathlib.Core.Path.{_≡_, refl, sym, ap, _∙_}
 use mathlib.Core.Bool.{Bool, true, false, cond, not, _&&_, _||_}
-use mathlib.Core.List.{List, [], _∷_, _++_}
+use mathlib.Core.List.{List, [], _∷_}
 use lib.ListN.{length, getD, take, drop, set, length-drop, List·getD-eq-default}
 use lib.Seq.{getD-drop, take-all, set-out}
 use Rattle.word.specs.Word.{put}
@@ -214,5 +214,5 @@ pages-taken frames k rs t t₁ t₂ l o₁ o₂ e p q h =
     h ∙ (λ i. withOrder frames (o i) (q i))
 
 -- and once the count of the rows left and the owner's slot are written
-pub abort-written : (x n k : ℕ) (t t₁ t₂ : List ℕ) → t₁ ≡ t → t₂ ≡ put 2 t₁ 0 k → k ≡ n → set t₂ (2 + x) 0 ≡ set (withCount n t) (liveAt x) 0
-abort-written x n k t t₁ t₂ p q e = ap (λ (l : List ℕ). set l (2 + x) 0) (q ∙ (λ i. put 2 (p i) 0 (e i)))
+pub abort-written : (x frames n : ℕ) (k rs : List (List ℕ)) (t t₁ t₂ l : List ℕ) → t₁ ≡ withOrder frames (framesFreed frames t rs l) (judgedAnew frames k rs t) → t₂ ≡ put 2 t₁ 0 n → n ≡ length k → set t₂ (2 + x) 0 ≡ set (withCount (length k) (withOrder frames (framesFreed frames t rs l) (judgedAnew frames k rs t))) (liveAt x) 0
+abort-written x frames n k rs t t₁ t₂ l p q e = ap (λ (y : List ℕ). set y (2 + x) 0) (q ∙ (λ i. put 2 (p i) 0 (e i)))

@@ -10,7 +10,6 @@ ghost use Rattle.order.specs.Meant.{listOf};
 ghost use Rattle.table.specs.Stays.{stays};
 ghost use Rattle.rules.specs.Lent.{liveAt, entryAt, withOrder, withCount};
 ghost use Rattle.rules.specs.Steps.{freedOf, framesFreed, judgedAnew};
-
 use number::FrameNo;
 use number::PageNo;
 use order::Order;
@@ -60,7 +59,14 @@ fn free_row(tables: &[u8], online: &[u8], frames: usize, i: usize, owner: u8, or
 }
 
 // The order without the frames of the pages of the owner's rows.
-fn free_frames(tables: &[u8], online: &[u8], frames: usize, m: usize, owner: u8, order: Order) -> Order
+fn free_frames(
+    tables: &[u8],
+    online: &[u8],
+    frames: usize,
+    m: usize,
+    owner: u8,
+    order: Order,
+) -> Order
     requires { ⌜ (m * 19 ≤ length (now online)) × (frames ≤ 64) × (order .used ≤ 64) ⌝ }
     ensures { λ r. ⌜ (listOf r ≡ framesFreed frames (now (tables .entry)) (keep (ownedBy owner) (rows 19 m (now (online .entry)) 0)) (listOf order)) × (r .used ≤ 64) ⌝ }
 {
@@ -136,7 +142,14 @@ fn take_pages(tables: &mut [u8], online: &[u8], frames: usize, m: usize, owner: 
     requires { ⌜ (35 + frames ≤ length (now tables)) × (getD (now tables) 2 0 ≤ frames) × (frames ≤ 64) × (m * 19 ≤ length (now online)) ⌝ }
     ensures { λ r. ⌜ now (tables .exit) ≡ withOrder frames (framesFreed frames (now (tables .entry)) (keep (ownedBy owner) (rows 19 m (now (online .entry)) 0)) (part 35 (getD (now (tables .entry)) 2 0) (now (tables .entry)))) (judgedAnew frames (keep (stays true owner 0) (rows 19 m (now (online .entry)) 0)) (keep (ownedBy owner) (rows 19 m (now (online .entry)) 0)) (now (tables .entry))) ⌝ }
 {
-    let order = free_frames(tables, online, frames, m, owner, frames::load_order(tables, frames));
+    let order = free_frames(
+        tables,
+        online,
+        frames,
+        m,
+        owner,
+        frames::load_order(tables, frames),
+    );
     judge_anew(tables, online, frames, m, owner);
     frames::save_order(tables, frames, order);
 }

@@ -7,7 +7,6 @@ ghost use Rattle.word.specs.Word.{num};
 ghost use Rattle.record.specs.Part.{part, withPart};
 ghost use Rattle.rules.specs.Lent.{liveAt};
 ghost use Rattle.rules.specs.Calls.{isNumber, isLive};
-
 use clerk::Clerk;
 
 // The clerk's state as it stands in the lent tables.

@@ -6,7 +6,6 @@ ghost use lib.ListN.{length, getD, set};
 ghost use Rattle.record.specs.Part.{part};
 ghost use Rattle.order.specs.Order.{without};
 ghost use Rattle.rules.specs.Lent.{entryAt, inFrame, frameOf, withOrder};
-
 use number::FrameNo;
 use number::PageNo;
 

@@ -1,6 +1,12 @@
 -- `steps::abort::abort` meets its contract: the tables are written in the order in which its setters nest.
 use mathlib.Core.Path.{_∙_}
-use lib.ListN.{length-set}
+use mathlib.Core.Bool.{true}
+use lib.ListN.{getD, length-set}
+use denote.Ref.{now}
+use Rattle.record.specs.Part.{part}
+use Rattle.record.specs.Rows.{rows, keep}
+use Rattle.record.specs.Record.{ownedBy}
+use Rattle.table.specs.Stays.{stays}
 use Rattle.steps.proofs.Laws.{abort-written}
 use borrow.Author.Needs.{needs}
 use Rattle.steps.proofs.abort.abort.Statement.{statement}
@@ -29,10 +35,13 @@ same-length-2 c = search needs
 
 returns : tie.Need-returns
 returns c =
+    let a = c .before .before .before .before .before .before .before .before .before .before .before .before .before .before .before .args in
+    let t = now (a .tables) in
+    let rs = rows 19 (a .m) (now (a .online)) 0 in
+    let p = c .before .before .before .before .before .before .before .before .before .before .take-pages in
     let d = c .before .before .before .before .before .before .delete in
     let s = c .before .before .store in
-    let p = c .before .before .before .before .before .before .before .before .before .before .take-pages in
-    (abort-written (c .before .before .before .before .before .before .before .before .before .before .before .before .before .before .before .args .owner) _ (d .result) _ (p .last .0) (s .last .0) (p .ensures) (s .ensures) (d .ensures .1), d .ensures .0)
+    (abort-written (a .owner) (a .frames) (d .result) (keep (stays true (a .owner) 0) rs) (keep (ownedBy (a .owner)) rs) t (p .last .0) (s .last .0) (part 35 (getD t 2 0) t) (p .ensures) (s .ensures) (d .ensures .1), d .ensures .0)
 
 pub abort-spec : {M : Type 1} → statement M
 abort-spec =

@@ -36,9 +36,11 @@ returns-2 c =
     let r = rowAt 19 (now (a .online)) (a .i) in
     let w = c .before .before .before .before .before .owner-of in
     let p = c .before .before .before .page-of in
-    (row-taken (a .owner) r (listOf (c .freed-order .result)) _ (listOf (a .order)) (w .result) (w .ensures) (c .before .before .before .before .if1 .left)
-    (freed-page (a .frames) (now (a .tables)) r (p .result .0) (c .before .byte-at .result) (listOf (a .order)) (listOf (c .freed-order .result)) (p .ensures .0) (c .before .byte-at .ensures) (c .freed-order .ensures .0)),
-    c .freed-order .ensures .1)
+    let e = c .before .byte-at in
+    let f = c .freed-order in
+    let o = listOf (a .order) in
+    let h = freed-page (a .frames) (now (a .tables)) r (p .result .0) (e .result) o (listOf (f .result)) (p .ensures .0) (e .ensures) (f .ensures .0) in
+    (row-taken (a .owner) r (listOf (f .result)) _ o (w .result) (w .ensures) (c .before .before .before .before .if1 .left) h, f .ensures .1)
 
 pub free-row-spec : {M : Type 1} → statement M
 free-row-spec =
