@@ -1,25 +1,24 @@
 -- Laws of pages and frames within their areas, and of what fetch finds.
 use Prim.Native.Nat.{ℕ, zero, suc, _+_, _*_, _-_, _/_, _%_, _≤_, _<_}
 use native.Mathlib.Omega.{arith}
-use native.Mathlib.Numerals.{add-one}
 use native.Mathlib.Nat.{mul-comm, mul-le-mul, suc-mul}
 use mathlib.Core.Path.{_≡_, refl, sym, ap, _∙_}
 use mathlib.Core.Bool.{Bool, true, false, cond, not, _&&_}
 use mathlib.Core.List.{List, [], _∷_, _++_}
-use lib.ListN.{length, getD, take, drop, set, length-take, length-drop}
+use lib.ListN.{length, getD, take, drop, length-take, length-drop}
 use lib.Seq.{take-nil, take-take, drop-drop}
 use lib.Dec.{eqb, leb, ltb}
-use borrow.Author.Tests.{eqb-true, eqb-false, eq-eqb, ne-eqb, leb-true, ltb-true}
-use borrow.Rule.Slice.PartMut.{midOf, putMid, mid-len, put-same}
+use borrow.Author.Tests.{eq-eqb, ne-eqb, leb-true, ltb-true}
+use borrow.Rule.Slice.PartMut.{putMid, put-same}
 use Rattle.record.specs.Part.{part, withPart}
 use Rattle.record.specs.Rows.{rows, keep}
 use Rattle.record.specs.Record.{onPage, applied}
 use Rattle.record.proofs.Laws.{getD-part}
 use Rattle.order.specs.Order.{named, touched, victim, frameFrom, frameFor}
-use Rattle.rules.specs.Lent.{Lent, lentOf, sizeOf, pagesOf, framesOf, countOf, orderOf, entryAt, entryOf, entriesOf, pageIn, withPage, withOrder, withEntries}
+use Rattle.rules.specs.Lent.{Lent, sizeOf, pagesOf, framesOf, countOf, orderOf, entryAt, entryOf, entriesOf, pageIn, withPage, withOrder, withEntries}
 use Rattle.rules.specs.Sound.{every}
-use Rattle.rules.specs.Shape.{Sized, Shaped}
-use Rattle.rules.specs.Steps.{placed, rebuilt, placeOf, fetchedEntries, fetchedPool, fetchReads, readTables, readStep, readBytes}
+use Rattle.rules.specs.Shape.{Shaped}
+use Rattle.rules.specs.Steps.{placed, rebuilt, fetchedEntries, fetchedPool, readTables, readStep, readBytes}
 use Rattle.fetch.specs.Post.{SizesRead, PageBrought, PageFetched, PageUsed, ReadDone}
 
 -- one of n frames lies within the n of them

@@ -10,14 +10,14 @@ use lib.Seq.{length-take-le, set-append-left, take-at, drop-at}
 use lib.Dec.{eqb}
 use borrow.Author.Tests.{eqb-true}
 use Rattle.word.specs.Word.{num, put}
-use Rattle.record.specs.Part.{part, withPart}
+use Rattle.record.specs.Part.{withPart}
 use Rattle.record.specs.Rows.{rowAt, rows, joined, table}
 use Rattle.record.specs.Record.{pageOf, apply, rowOf}
 use Rattle.table.proofs.Laws.{length-rows, joined-all}
 use Rattle.order.specs.Order.{touched}
-use Rattle.rules.specs.Lent.{Lent, sizeOf, pagesOf, framesOf, roomOf, countOf, orderOf, entryAt, entryOf, entriesOf, onlineOf, inFrame, dirtyIn, pageIn, withPage, withOrder, withEntries, withCount}
+use Rattle.rules.specs.Lent.{Lent, sizeOf, pagesOf, framesOf, roomOf, countOf, orderOf, entryAt, entryOf, entriesOf, onlineOf, inFrame, dirtyIn, pageIn, withPage, withOrder, withCount}
 use Rattle.rules.specs.Sound.{every, zeros}
-use Rattle.rules.specs.Shape.{Sized, Shaped}
+use Rattle.rules.specs.Shape.{Shaped}
 use Rattle.rules.specs.Steps.{freed, placed, placeOf, fetchedEntries, fetchedPool, updateTables, updated}
 use Rattle.fetch.specs.Post.{SizesRead, PageFetched, PageUsed, UpdateDone}
 use Rattle.fetch.proofs.Laws.{and-both}

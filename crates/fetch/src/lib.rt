@@ -1,9 +1,9 @@
 // Fetch, read and update: a page comes into a frame, is read there, is changed there.
-// Every function is lent all seven areas, so that its contract speaks of the whole of them.
+// Fetch, read and update are lent all seven areas, so that their contracts speak of the whole of them.
 ghost use mathlib.Core.Path.{_≡_};
 ghost use mathlib.Core.Bool.{true, cond};
 ghost use mathlib.Core.List.{_++_};
-ghost use Prim.Native.Nat.{ℕ, _+_, _*_, _≤_, _<_};
+ghost use Prim.Native.Nat.{_+_, _*_, _≤_, _<_};
 ghost use lib.ListN.{length, getD, drop, set};
 ghost use Rattle.word.specs.Word.{num};
 ghost use Rattle.record.specs.Part.{part};
@@ -11,7 +11,7 @@ ghost use Rattle.record.specs.Rows.{rowAt, rows, keep};
 ghost use Rattle.record.specs.Record.{onPage, apply, applied, rowOf};
 ghost use Rattle.order.specs.Order.{touched};
 ghost use Rattle.order.specs.Meant.{listOf};
-ghost use Rattle.rules.specs.Lent.{lentOf, sizeOf, pagesOf, framesOf, roomOf, countOf, orderOf, entriesOf, entryAt, dirtyIn, pageIn, withPage, withOrder, withEntries, withCount};
+ghost use Rattle.rules.specs.Lent.{lentOf, sizeOf, pagesOf, framesOf, roomOf, countOf, orderOf, entryAt, dirtyIn, pageIn, withPage, withOrder, withEntries, withCount};
 ghost use Rattle.rules.specs.Sound.{zeros};
 ghost use Rattle.rules.specs.Shape.{Shaped};
 ghost use Rattle.rules.specs.Steps.{placed, readTables, updateTables};
