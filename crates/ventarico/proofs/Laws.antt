@@ -42,3 +42,10 @@ judged s v w b e h k = sym (passed (not (sound s)) NotSound v w (ap not (sym e) 
 
 pub is-sound : (s : Lent) (b : Bool) → b ≡ sound s → not b ≡ false → sound s ≡ true
 is-sound s b e h = holds (sound s) (ap not (sym e) ∙ h)
+
+-- read's buffer beside them
+pub buffer-refused : (v : Verdict) (s : Lent) (buffer : List ℕ) (o : Outcome) (why : Refusal) → v ≡ Refuse why → buffer ≡ settled v s buffer o .buffer
+buffer-refused v s buffer o why e = sym (ap (λ (w : Verdict). settled w s buffer o .buffer) e)
+
+pub buffer-done : (v : Verdict) (s : Lent) (buffer after b : List ℕ) (d : Left) → v ≡ Go → b ≡ after → b ≡ settled v s buffer (doneWith d after) .buffer
+buffer-done v s buffer after b d e h = h ∙ sym (ap (λ (w : Verdict). settled w s buffer (doneWith d after) .buffer) e)

@@ -1,2 +1,3 @@
 -- Laws of the doors.
 pub mod Laws
+pub mod Went

@@ -1,4 +1,4 @@
 // The door: the calls of document 01 as the C firmware makes them, over numbers and byte slices. Each asks nothing of its
 // caller, checks, judges, and only then acts; its promise gives the answer and every lent byte afterwards.
 mod answer;
-pub mod close;
+pub mod door;

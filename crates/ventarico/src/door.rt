@@ -1,0 +1,10 @@
+// One call a file.
+pub mod abort_call;
+pub mod begin_call;
+pub mod close_call;
+pub mod commit_call;
+pub mod evict_call;
+pub mod format_call;
+pub mod read_call;
+pub mod restart_call;
+pub mod update_call;
