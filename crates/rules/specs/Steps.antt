@@ -29,6 +29,10 @@ left s r w l = record { lent = s; reads = r; writes = w; logs = l }
 unfoldable pub begun : Lent → ℕ → Left
 begun s x = left (lostNow s (set (s .lost .tables) (liveAt x) 1) (s .lost .online) (s .lost .pool)) 0 0 0
 
+-- the order once a page of this entry has lost its frame
+abbrev pub freedOf : ℕ → List ℕ → List ℕ
+freedOf e o = cond (inFrame e) (without (frameOf e) o) o
+
 -- Fetch. "A page in a frame is used there. Otherwise the lowest free frame is taken, or, with none free, the least recently used page is evicted."
 abbrev pub placeOf : Lent → ℕ → ℕ
 placeOf s p = cond (inFrame (entryOf s p)) (frameOf (entryOf s p)) (frameFor (framesOf s) (orderOf s))
@@ -96,9 +100,9 @@ abbrev pub others : Lent → ℕ → List (List ℕ)
 others s x = keep (λ (r : List ℕ). not (gone true x 0 r)) (onlineOf s)
 
 -- the order without the frames of these rows' pages
-unfoldable pub framesFreed : Lent → List (List ℕ) → List ℕ → List ℕ
-framesFreed s [] o = o
-framesFreed s (r ∷ rs) o = framesFreed s rs (cond (inFrame (entryOf s (pageOf r))) (without (frameOf (entryOf s (pageOf r))) o) o)
+unfoldable pub framesFreed : ℕ → List ℕ → List (List ℕ) → List ℕ → List ℕ
+framesFreed frames tables [] o = o
+framesFreed frames tables (r ∷ rs) o = framesFreed frames tables rs (freedOf (getD tables (entryAt frames (pageOf r)) 0) o)
 
 -- the tables with these rows' pages judged anew by the rows that remain
 unfoldable pub judgedAnew : ℕ → List (List ℕ) → List (List ℕ) → List ℕ → List ℕ
@@ -109,7 +113,7 @@ unfoldable pub aborted : Lent → ℕ → Left
 aborted s x =
     left
     (lostNow s
-    (set (withCount (length (others s x)) (withOrder (framesOf s) (framesFreed s (owned s x) (orderOf s)) (judgedAnew (framesOf s) (others s x) (owned s x) (s .lost .tables)))) (liveAt x) 0)
+    (set (withCount (length (others s x)) (withOrder (framesOf s) (framesFreed (framesOf s) (s .lost .tables) (owned s x) (orderOf s)) (judgedAnew (framesOf s) (others s x) (owned s x) (s .lost .tables)))) (liveAt x) 0)
     (table 19 (roomOf s) (others s x))
     (s .lost .pool))
     0 0 0
@@ -141,7 +145,7 @@ unfoldable pub compactedEntry : Lent → ℕ → ℕ
 compactedEntry s p = cond (fromFrame s p) (cleanIn (frameOf (entryOf s p))) (cond (eqb (length (foldable s p)) (length (keep (onPage p) (onlineOf s)))) 0 1)
 
 unfoldable pub compactedOrder : Lent → ℕ → List ℕ
-compactedOrder s p = cond (not (fromFrame s p) && inFrame (entryOf s p)) (without (frameOf (entryOf s p)) (orderOf s)) (orderOf s)
+compactedOrder s p = cond (fromFrame s p) (orderOf s) (freedOf (entryOf s p) (orderOf s))
 
 abbrev pub unfolded : Lent → ℕ → List (List ℕ)
 unfolded s p = keep (λ (r : List ℕ). not (gone false 0 p r)) (onlineOf s)
