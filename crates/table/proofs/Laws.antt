@@ -1,15 +1,18 @@
 -- Laws of rows: a turn of a loop over them, rows as bytes, tables in canonical form.
 use Prim.Native.Nat.{ℕ, zero, suc, _+_, _*_, _-_, _≤_, _<_}
 use native.Mathlib.Omega.{arith}
-use native.Mathlib.Nat.{suc-mul, zero-mul, add-mul, one-mul, add-comm}
+use native.Mathlib.Nat.{suc-mul, zero-mul, add-mul, one-mul, mul-comm, mul-sub, mul-le-mul-right, add-comm}
 use native.Mathlib.Numerals.{add-one}
 use mathlib.Core.Path.{_≡_, refl, sym, ap, _∙_}
 use mathlib.Core.Bool.{Bool, true, false, cond}
-use mathlib.Core.List.{List, [], _∷_, _++_, append-assoc, map}
-use lib.ListN.{length, take, drop, getD, set, replicate, take-append-drop, length-append, length-drop, length-take}
+use mathlib.Core.List.{List, [], _∷_, _++_, append-assoc, append-nil, map}
+use lib.ListN.{length, take, drop, getD, set, replicate, take-append-drop, length-append, length-drop, length-take, length-set, length-replicate}
 use lib.Seq.{take-add, drop-drop, take-at, drop-at, length-take-le}
 use Rattle.record.specs.Part.{part, withPart}
 use Rattle.record.specs.Rows.{rowAt, rows, joined, table, consIf, keep}
+use Rattle.record.specs.Record.{bodyOf, ownedBy, rowOf, entered, numbered, numberRows}
+use Rattle.word.specs.Word.{put}
+use Rattle.word.proofs.Laws.{length-put}
 
 module _ {A : Type 0} where
   -- one that passes is kept, one that does not is not
@@ -110,3 +113,163 @@ drop-rows w (suc n) (suc d) t i h =
     let f : i + suc d ≡ i + 1 + d = omega arith in
     let g : d ≤ n = omega arith in
     rw (e, f) (drop-rows w n d t (i + 1) g)
+
+pub sub-mul : (m n k : ℕ) → (m - n) * k ≡ m * k - n * k
+sub-mul m n k = mul-comm (m - n) k ∙ mul-sub k m n ∙ ap (λ (q : ℕ). q - k * n) (mul-comm k m) ∙ ap (λ (q : ℕ). m * k - q) (mul-comm k n)
+
+-- a row within the table has its width
+pub row-length : (w : ℕ) (t : List ℕ) (j : ℕ) → j * w + w ≤ length t → length (rowAt w t j) ≡ w
+row-length w t j h =
+    let g : w ≤ length (drop (j * w) t) = rw (length-drop (j * w) t) (omega arith) in
+    length-take-le w (drop (j * w) t) g
+
+-- every row has w bytes
+pub data Wide (w : ℕ) : List (List ℕ) → Type 0 where
+  none : Wide w []
+  one : {r : List ℕ} {rs : List (List ℕ)} → length r ≡ w → Wide w rs → Wide w (r ∷ rs)
+
+row-after : (i w : ℕ) → (i + 1) * w ≡ i * w + w
+row-after i w = add-mul i 1 w ∙ ap (λ (k : ℕ). i * w + k) (one-mul w)
+
+pub wide-rows : (w n : ℕ) (t : List ℕ) (i : ℕ) → i * w + n * w ≤ length t → Wide w (rows w n t i)
+unfolding rows
+wide-rows w zero t i h = none
+wide-rows w (suc n) t i h =
+    let e : suc n * w ≡ n * w + w = suc-mul n w in
+    let f : (i + 1) * w ≡ i * w + w = row-after i w in
+    one (row-length w t i (omega arith)) (wide-rows w n t (i + 1) (omega arith))
+
+-- the rows of a table
+pub wide-all : (w n : ℕ) (t : List ℕ) → n * w ≤ length t → Wide w (rows w n t 0)
+wide-all w n t h = let z : 0 * w ≡ 0 = zero-mul w in wide-rows w n t 0 (omega arith)
+
+wide-if : {w : ℕ} (z : Bool) (r : List ℕ) {rs : List (List ℕ)} → length r ≡ w → Wide w rs → Wide w (consIf z r rs)
+wide-if true r e h = one e h
+wide-if false r e h = h
+
+pub wide-keep : {w : ℕ} (b : List ℕ → Bool) {rs : List (List ℕ)} → Wide w rs → Wide w (keep b rs)
+unfolding keep
+wide-keep b none = none
+wide-keep b (one {r} {rs} e h) = wide-if (b r) r e (wide-keep b h)
+
+pub wide-drop : {w : ℕ} (d : ℕ) {rs : List (List ℕ)} → Wide w rs → Wide w (drop d rs)
+wide-drop zero h = h
+wide-drop (suc d) none = none
+wide-drop (suc d) (one e h) = wide-drop d h
+
+pub wide-append : {w : ℕ} {rs ss : List (List ℕ)} → Wide w rs → Wide w ss → Wide w (rs ++ ss)
+wide-append none k = k
+wide-append (one e h) k = one e (wide-append h k)
+
+-- the records of online rows
+pub wide-bodies : {rs : List (List ℕ)} → Wide 19 rs → Wide 14 (map bodyOf rs)
+wide-bodies none = none
+wide-bodies (one {r} {rs} e h) = one (length-take-le 14 r (omega arith)) (wide-bodies h)
+
+pub length-numbered : (r : List ℕ) (k : ℕ) → length (numbered r k) ≡ length r
+unfolding numbered
+length-numbered r k = length-put 4 (set r 14 0) 15 k ∙ length-set r 14 0
+
+wide-numbered : (z : Bool) (r : List ℕ) {xs ys : List (List ℕ)} (k : ℕ) → length r ≡ 19 → Wide 19 xs → Wide 19 ys → Wide 19 (cond z (numbered r k ∷ xs) (r ∷ ys))
+wide-numbered true r k e h i = one (length-numbered r k ∙ e) h
+wide-numbered false r k e h i = one e i
+
+pub wide-number : {rs : List (List ℕ)} (x k : ℕ) → Wide 19 rs → Wide 19 (numberRows x k rs)
+unfolding numberRows
+wide-number x k none = none
+wide-number x k (one {r} {rs} e h) = wide-numbered (ownedBy x r) r k e (wide-number x (k + 1) h) (wide-number x k h)
+
+length-numbered-rows : (z : Bool) (r : List ℕ) (n k : ℕ) (xs ys : List (List ℕ)) → length xs ≡ n → length ys ≡ n → length (cond z (numbered r k ∷ xs) (r ∷ ys)) ≡ suc n
+length-numbered-rows true r n k xs ys e f = ap suc e
+length-numbered-rows false r n k xs ys e f = ap suc f
+
+pub length-number : (x k : ℕ) (rs : List (List ℕ)) → length (numberRows x k rs) ≡ length rs
+unfolding numberRows
+length-number x k [] = refl
+length-number x k (r ∷ rs) = length-numbered-rows (ownedBy x r) r (length rs) k _ _ (length-number x (k + 1) rs) (length-number x k rs)
+
+-- so many bytes in all
+pub length-joined : {w : ℕ} {rs : List (List ℕ)} → Wide w rs → length (joined rs) ≡ length rs * w
+unfolding joined
+length-joined {w} none = sym (zero-mul w)
+length-joined {w} (one {r} {rs} e h) =
+    length-append r (joined rs) ∙ ap (λ (n : ℕ). n + length (joined rs)) e ∙ ap (λ (n : ℕ). w + n) (length-joined h)
+    ∙ add-comm w (length rs * w) ∙ sym (suc-mul (length rs) w)
+
+pub joined-append : (rs ss : List (List ℕ)) → joined (rs ++ ss) ≡ joined rs ++ joined ss
+unfolding joined
+joined-append [] ss = refl
+joined-append (r ∷ rs) ss = ap (λ (l : List ℕ). r ++ l) (joined-append rs ss) ∙ sym (append-assoc r (joined rs) (joined ss))
+
+-- rows that were joined are read again
+rows-from : {w : ℕ} {rs : List (List ℕ)} (f z : List ℕ) (i : ℕ) → Wide w rs → length f ≡ i * w → rows w (length rs) (f ++ (joined rs ++ z)) i ≡ rs
+unfolding rows joined
+rows-from f z i none e = refl
+rows-from {w} f z i (one {r} {rs} le h) e =
+    let a : f ++ ((r ++ joined rs) ++ z) ≡ f ++ (r ++ (joined rs ++ z)) = ap (λ (l : List ℕ). f ++ l) (append-assoc r (joined rs) z) in
+    let b : f ++ ((r ++ joined rs) ++ z) ≡ f ++ r ++ (joined rs ++ z) = a ∙ sym (append-assoc f r (joined rs ++ z)) in
+    let n : length (f ++ r) ≡ (i + 1) * w = length-append f r ∙ ap (λ (k : ℕ). k + length r) e ∙ ap (λ (k : ℕ). i * w + k) le ∙ sym (row-after i w) in
+    let row : rowAt w (f ++ ((r ++ joined rs) ++ z)) i ≡ r =
+        ap (λ (l : List ℕ). take w (drop (i * w) l)) a ∙ ap (λ (l : List ℕ). take w l) (drop-at f (r ++ (joined rs ++ z)) (i * w) e) ∙ take-at r (joined rs ++ z) w le in
+    let rest : rows w (length rs) (f ++ ((r ++ joined rs) ++ z)) (i + 1) ≡ rs =
+        ap (λ (l : List ℕ). rows w (length rs) l (i + 1)) b ∙ rows-from (f ++ r) z (i + 1) h n in
+    ap (λ (x : List ℕ). x ∷ rows w (length rs) (f ++ ((r ++ joined rs) ++ z)) (i + 1)) row ∙ ap (λ (l : List (List ℕ)). r ∷ l) rest
+
+pub rows-joined : {w : ℕ} {rs : List (List ℕ)} (z : List ℕ) → Wide w rs → rows w (length rs) (joined rs ++ z) 0 ≡ rs
+rows-joined {w} z h = rows-from [] z 0 h (sym (zero-mul w))
+
+-- rows written after the first n
+pub rows-extended : {w : ℕ} (n : ℕ) (l z : List ℕ) {rs : List (List ℕ)} → n * w ≤ length l → Wide w rs
+    → rows w (n + length rs) (take (n * w) l ++ (joined rs ++ z)) 0 ≡ rows w n l 0 ++ rs
+rows-extended {w} n l z {rs} h k =
+    let b : take (n * w) l ++ (joined rs ++ z) ≡ joined (rows w n l 0 ++ rs) ++ z =
+        ap (λ (x : List ℕ). x ++ (joined rs ++ z)) (sym (joined-all w n l)) ∙ sym (append-assoc (joined (rows w n l 0)) (joined rs) z)
+        ∙ ap (λ (x : List ℕ). x ++ z) (sym (joined-append (rows w n l 0) rs)) in
+    let c : n + length rs ≡ length (rows w n l 0 ++ rs) = sym (length-append (rows w n l 0) rs ∙ ap (λ (x : ℕ). x + length rs) (length-rows w n l 0)) in
+    ap (λ (x : List ℕ). rows w (n + length rs) x 0) b ∙ ap (λ (x : ℕ). rows w x (joined (rows w n l 0 ++ rs) ++ z) 0) c
+    ∙ rows-joined z (wide-append (wide-all w n l h) k)
+
+pub rows-appended : {w : ℕ} (m : ℕ) (t y : List ℕ) → m * w ≤ length t → length y ≡ w → rows w (m + 1) (withPart (m * w) w t y) 0 ≡ rows w m t 0 ++ (y ∷ [])
+unfolding joined
+rows-appended {w} m t y h e =
+    let k : Wide w (y ∷ []) = one e none in
+    ap (λ (x : List ℕ). rows w (m + 1) (take (m * w) t ++ (x ++ drop w (drop (m * w) t))) 0) (sym (append-nil y))
+    ∙ rows-extended m t (drop w (drop (m * w) t)) h k
+
+-- a table of such rows: its length, its rows, its zeros
+pub length-table : {w : ℕ} (size : ℕ) {rs : List (List ℕ)} → Wide w rs → length rs ≤ size → length (table w size rs) ≡ size * w
+unfolding table
+length-table {w} size {rs} h le =
+    let z : List ℕ = replicate ((size - length rs) * w) 0 in
+    let e : length (joined rs ++ z) ≡ length rs * w + (size - length rs) * w =
+        length-append (joined rs) z ∙ ap (λ (n : ℕ). n + length z) (length-joined h)
+        ∙ ap (λ (n : ℕ). length rs * w + n) (length-replicate {A = ℕ} ((size - length rs) * w) 0) in
+    let f : length rs + (size - length rs) ≡ size = omega arith in
+    e ∙ sym (add-mul (length rs) (size - length rs) w) ∙ ap (λ (n : ℕ). n * w) f
+
+pub rows-table : {w : ℕ} (size : ℕ) {rs : List (List ℕ)} → Wide w rs → rows w (length rs) (table w size rs) 0 ≡ rs
+unfolding table
+rows-table {w} size {rs} h = rows-joined (replicate ((size - length rs) * w) 0) h
+
+pub zeros-table : {w : ℕ} (size : ℕ) {rs : List (List ℕ)} → Wide w rs → drop (length rs * w) (table w size rs) ≡ replicate ((size - length rs) * w) 0
+unfolding table
+zeros-table {w} size {rs} h = drop-at (joined rs) (replicate ((size - length rs) * w) 0) (length rs * w) (length-joined h)
+
+-- a list with zeros after its first n rows is the table of them
+pub canon : (w size n : ℕ) (l : List ℕ) → drop (n * w) l ≡ replicate ((size - n) * w) 0 → l ≡ table w size (rows w n l 0)
+unfolding table
+canon w size n l e =
+    sym (take-append-drop (n * w) l) ∙ ap (λ (x : List ℕ). x ++ drop (n * w) l) (sym (joined-all w n l)) ∙ ap (λ (x : List ℕ). joined (rows w n l 0) ++ x) e
+    ∙ ap (λ (k : ℕ). joined (rows w n l 0) ++ replicate ((size - k) * w) 0) (sym (length-rows w n l 0))
+
+-- the rows that `append` and `enter` write have their width
+pub length-rowOf : (page offset w kind v owner : ℕ) → length (rowOf page offset w kind v owner) ≡ 19
+unfolding rowOf
+length-rowOf page offset w kind v owner =
+    let z : List ℕ = put 2 (put 2 (replicate 19 0) 0 page) 2 offset in
+    let a : length z ≡ 19 = length-put 2 (put 2 (replicate 19 0) 0 page) 2 offset ∙ length-put 2 (replicate 19 0) 0 page ∙ length-replicate {A = ℕ} 19 0 in
+    length-set (put 8 (set (set z 4 w) 5 kind) 6 v) 14 owner ∙ length-put 8 (set (set z 4 w) 5 kind) 6 v ∙ length-set (set z 4 w) 5 kind ∙ length-set z 4 w ∙ a
+
+pub length-entered : (b : List ℕ) (k : ℕ) → length b ≡ 14 → length (entered b k) ≡ 19
+unfolding entered
+length-entered b k e = length-put 4 (b ++ replicate 5 0) 15 k ∙ length-append b (replicate 5 0) ∙ ap (λ (n : ℕ). n + 5) e

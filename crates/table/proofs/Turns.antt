@@ -1,7 +1,6 @@
 -- The turns and ends of this crate's loops over rows.
 use Prim.Native.Nat.{ℕ, zero, suc, _+_, _*_, _-_, _≤_, _<_}
 use native.Mathlib.Omega.{arith}
-use native.Mathlib.Nat.{mul-comm, mul-sub}
 use mathlib.Core.Path.{_≡_, refl, sym, ap, _∙_}
 use mathlib.Core.Bool.{Bool, true, false, cond, _&&_}
 use mathlib.Core.List.{List, [], _∷_, _++_, append-assoc, append-nil, map}
@@ -12,7 +11,7 @@ use Rattle.word.specs.Word.{put}
 use Rattle.record.specs.Part.{part, withPart}
 use Rattle.record.specs.Rows.{rowAt, rows, joined, table, consIf, keep}
 use Rattle.record.specs.Record.{pageOf, ownerOf, bodyOf, ownedBy, gone, numbered, numberRows}
-use Rattle.table.proofs.Laws.{rows-more, rows-end, rows-start, keep-rows-more, keep-rows-end, joined-cons, joined-rows, length-rows, drop-rows, count-start, count-turn, count-end}
+use Rattle.table.proofs.Laws.{rows-more, rows-end, rows-start, keep-rows-more, keep-rows-end, row-length, sub-mul, joined-cons, joined-rows, length-rows, drop-rows, count-start, count-turn, count-end}
 use Rattle.table.proofs.Moves.{with-take, with-drop, with-length, lent-back, lent-length}
 
 -- a step of a count goes up by one at most
@@ -121,12 +120,7 @@ pub number-all : (x next m : ℕ) (o t : List ℕ) (k j : ℕ) → Numbering x n
 number-all x next m o t k j inv q =
     (number-end x m j k o t _ (inv .within) q (inv .after) (inv .bytes), count-end (ownedBy x) 19 m o j k _ q (inv .count))
 
--- a row within the table has its width, and its record 14 bytes
-row-length : (w : ℕ) (t : List ℕ) (j : ℕ) → j * w + w ≤ length t → length (rowAt w t j) ≡ w
-row-length w t j h =
-    let g : w ≤ length (drop (j * w) t) = rw (length-drop (j * w) t) (omega arith) in
-    length-take-le w (drop (j * w) t) g
-
+-- a row's record has 14 bytes
 body-length : (t : List ℕ) (j : ℕ) → j * 19 + 19 ≤ length t → length (bodyOf (rowAt 19 t j)) ≡ 14
 body-length t j h =
     let e : length (rowAt 19 t j) ≡ 19 = row-length 19 t j h in
@@ -312,9 +306,6 @@ squeeze-all b m o t k j inv q =
     (sym (append-nil (take (k * 19) t)) ∙ ap (λ (y : List (List ℕ)). take (k * 19) t ++ joined y) (sym (keep-rows-end b 19 m o j q)) ∙ inv .bytes,
     omega arith,
     omega arith)
-
-sub-mul : (m n k : ℕ) → (m - n) * k ≡ m * k - n * k
-sub-mul m n k = mul-comm (m - n) k ∙ mul-sub k m n ∙ ap (λ (q : ℕ). q - k * n) (mul-comm k m) ∙ ap (λ (q : ℕ). m * k - q) (mul-comm k n)
 
 -- rows at the front, and zeros from there on
 pub cleared : (w size k : ℕ) (rs : List (List ℕ)) (o t s : List ℕ) → length o ≡ size * w → length t ≡ length o → k ≡ length rs → take (k * w) t ≡ joined rs

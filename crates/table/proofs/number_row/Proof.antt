@@ -25,7 +25,7 @@ add-result : tie.Need-add-result
 add-result c = search needs
 
 same-length : tie.Need-same-length
-same-length c = c .before .before .store .kept .0 ∙ length-set (now (c .before .before .before .before .before .before .before .args .row)) 14 0
+same-length c = simp length-set at (c .before .before .store .kept .0)
 
 returns-2 : tie.Need-returns-2
 unfolding numbered

@@ -1,0 +1,77 @@
+// Commit: an owner's rows are appended to the log and numbered, L and n go up, and the transaction ends.
+ghost use mathlib.Core.Path.{_≡_};
+ghost use mathlib.Core.Bool.{true, cond};
+ghost use mathlib.Core.List.{_++_, map};
+ghost use Prim.Native.Nat.{_+_, _*_, _≤_};
+ghost use lib.ListN.{length, take, drop, set};
+ghost use lib.Dec.{eqb};
+ghost use Rattle.word.specs.Word.{num, put};
+ghost use Rattle.record.specs.Rows.{rows, joined, keep};
+ghost use Rattle.record.specs.Record.{ownedBy, bodyOf, numberRows};
+ghost use Rattle.rules.specs.Lent.{lentOf, spanOf, lastOf, loggedOf, countOf, liveAt};
+ghost use Rattle.rules.specs.Shape.{Shaped};
+ghost use Rattle.rules.specs.Sound.{zeros};
+ghost use Rattle.rules.specs.Steps.{owned, committing};
+
+// The owner's rows of the first m appended to the log, then numbered from L + 1 on; how many.
+fn commit_rows(marks: &[u8], log: &mut [u8], online: &mut [u8], m: usize, owner: u8) -> usize
+    requires { ⌜ (12 ≤ length (now marks)) × (m * 19 ≤ length (now online)) × (num 4 (now marks) 8 * 14 + length (keep (ownedBy owner) (rows 19 m (now online) 0)) * 14 ≤ length (now log)) ⌝ }
+    ensures { λ r. ⌜ (now (log .exit) ≡ take (num 4 (now (marks .entry)) 8 * 14) (now (log .entry)) ++ (joined (map bodyOf (keep (ownedBy owner) (rows 19 m (now (online .entry)) 0))) ++ drop ((num 4 (now (marks .entry)) 8 + length (keep (ownedBy owner) (rows 19 m (now (online .entry)) 0))) * 14) (now (log .entry)))) × (now (online .exit) ≡ joined (numberRows owner (num 4 (now (marks .entry)) 0 + 1) (rows 19 m (now (online .entry)) 0)) ++ drop (m * 19) (now (online .entry))) × (r ≡ length (keep (ownedBy owner) (rows 19 m (now (online .entry)) 0))) ⌝ }
+{
+    let last = word::load(marks, 0, 4);
+    let n = word::load(marks, 8, 4) as usize;
+    let full = table::append_log(log, n, online, m, owner);
+    table::number_rows(online, m, owner, last + 1);
+    full - n
+}
+
+// L and n go up by k.
+fn count_up(marks: &mut [u8], k: usize)
+    requires { ⌜ (12 ≤ length (now marks)) × (k ≤ 65536) ⌝ }
+    ensures { λ r. ⌜ now (marks .exit) ≡ put 4 (put 4 (now (marks .entry)) 0 (num 4 (now (marks .entry)) 0 + k)) 8 (num 4 (now (marks .entry)) 8 + k) ⌝ }
+{
+    let last = word::load(marks, 0, 4);
+    let n = word::load(marks, 8, 4);
+    let more = k as u64;
+    word::store(marks, 0, 4, last + more);
+    word::store(marks, 8, 4, n + more);
+}
+
+// The transaction is live no more.
+fn end(tables: &mut [u8], owner: u8)
+    requires { ⌜ (37 ≤ length (now tables)) × (owner ≤ 32) ⌝ }
+    ensures { λ r. ⌜ now (tables .exit) ≡ set (now (tables .entry)) (liveAt owner) 0 ⌝ }
+{
+    tables[2 + owner as usize] = 0;
+}
+
+// One log write if there are records.
+fn writes(k: usize) -> u32
+    ensures { λ r. ⌜ r ≡ cond (eqb k 0) 0 1 ⌝ }
+{
+    if k == 0 {
+        return 0;
+    }
+    1
+}
+
+// Commit, on all the lent areas; how many log writes.
+pub fn commit(
+    fixed: &[u8],
+    marks: &mut [u8],
+    log: &mut [u8],
+    stored: &[u8],
+    tables: &mut [u8],
+    online: &mut [u8],
+    pool: &[u8],
+    owner: u8,
+) -> u32
+    requires { ⌜ Shaped (lentOf (now fixed) (now marks) (now log) (now stored) (now tables) (now online) (now pool)) × (1 ≤ owner) × (owner ≤ 32) × (loggedOf (lentOf (now fixed) (now marks) (now log) (now stored) (now tables) (now online) (now pool)) + length (owned (lentOf (now fixed) (now marks) (now log) (now stored) (now tables) (now online) (now pool)) owner) ≤ spanOf (lentOf (now fixed) (now marks) (now log) (now stored) (now tables) (now online) (now pool))) × (lastOf (lentOf (now fixed) (now marks) (now log) (now stored) (now tables) (now online) (now pool)) + length (owned (lentOf (now fixed) (now marks) (now log) (now stored) (now tables) (now online) (now pool)) owner) ≤ 4294967295) × (zeros (drop (countOf (lentOf (now fixed) (now marks) (now log) (now stored) (now tables) (now online) (now pool)) * 19) (now online)) ≡ true) × (zeros (drop (loggedOf (lentOf (now fixed) (now marks) (now log) (now stored) (now tables) (now online) (now pool)) * 14) (now log)) ≡ true) ⌝ }
+    ensures { λ r. ⌜ (r ≡ committing (lentOf (now (fixed .entry)) (now (marks .entry)) (now (log .entry)) (now (stored .entry)) (now (tables .entry)) (now (online .entry)) (now (pool .entry))) owner .logs) × (lentOf (now (fixed .entry)) (now (marks .exit)) (now (log .exit)) (now (stored .entry)) (now (tables .exit)) (now (online .exit)) (now (pool .entry)) ≡ committing (lentOf (now (fixed .entry)) (now (marks .entry)) (now (log .entry)) (now (stored .entry)) (now (tables .entry)) (now (online .entry)) (now (pool .entry))) owner .lent) ⌝ }
+{
+    let m = word::load(tables, 0, 2) as usize;
+    let k = commit_rows(marks, log, online, m, owner);
+    count_up(marks, k);
+    end(tables, owner);
+    writes(k)
+}
