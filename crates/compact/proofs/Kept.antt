@@ -11,8 +11,8 @@ use lib.Dec.{eqb}
 use Rattle.word.specs.Word.{num, put}
 use Rattle.word.proofs.Laws.{length-put}
 use Rattle.record.specs.Part.{part, withPart}
-use Rattle.record.specs.Rows.{rowAt, rows, joined, table, consIf, keep}
-use Rattle.table.proofs.Laws.{keep-length, length-rows}
+use Rattle.record.specs.Rows.{rows, table, keep}
+use Rattle.table.proofs.Laws.{keep-length, length-rows, length-table, wide-keep, wide-all}
 use Rattle.table.proofs.Moves.{with-drop, with-length}
 use Rattle.order.specs.Order.{without}
 use Rattle.rules.specs.Lent.{withOrder, withCount}
@@ -192,24 +192,7 @@ every-without b f (x ∷ o) h = go (eqb x f) (every-without b f o (and-right (b 
     go true k = k
     go false k = and-both (b x) (every b (without f o)) (and-left (b x) (every b o) h) k
 
--- online rows as bytes: those kept of the first n, and a table of them
-pub length-joined : (b : List ℕ → Bool) (n : ℕ) (t : List ℕ) (i : ℕ) → i * 19 + n * 19 ≤ length t → length (joined (keep b (rows 19 n t i))) ≡ length (keep b (rows 19 n t i)) * 19
-unfolding rows joined keep
-length-joined b zero t i h = refl
-length-joined b (suc n) t i h = go (b (rowAt 19 t i)) (length-joined b n t (i + 1) (omega arith))
-  where
-    go : (z : Bool) → length (joined (keep b (rows 19 n t (i + 1)))) ≡ length (keep b (rows 19 n t (i + 1))) * 19
-        → length (joined (consIf z (rowAt 19 t i) (keep b (rows 19 n t (i + 1))))) ≡ length (consIf z (rowAt 19 t i) (keep b (rows 19 n t (i + 1)))) * 19
-    go true e =
-        let g : length (rowAt 19 t i) ≡ 19 = length-part (i * 19) 19 t (omega arith) in
-        omega (arith, length-append (rowAt 19 t i) (joined (keep b (rows 19 n t (i + 1)))))
-    go false e = e
-
-pub length-table : (size : ℕ) (rs : List (List ℕ)) → length rs ≤ size → length (joined rs) ≡ length rs * 19 → length (table 19 size rs) ≡ size * 19
-unfolding table
-length-table size rs h e =
-    omega (arith, length-append (joined rs) (replicate ((size - length rs) * 19) 0), length-replicate {A = ℕ} ((size - length rs) * 19) 0)
-
+-- a table of those kept of the first n rows
 pub length-kept-table : (b : List ℕ → Bool) (n size : ℕ) (t : List ℕ) → n ≤ size → length t ≡ size * 19 → length (table 19 size (keep b (rows 19 n t 0))) ≡ size * 19
 length-kept-table b n size t h e =
-    length-table size (keep b (rows 19 n t 0)) (omega (arith, keep-length b (rows 19 n t 0), length-rows 19 n t 0)) (length-joined b n t 0 (omega arith))
+    length-table size (wide-keep b (wide-all 19 n t (omega arith))) (omega (arith, keep-length b (rows 19 n t 0), length-rows 19 n t 0))

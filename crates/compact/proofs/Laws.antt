@@ -40,7 +40,7 @@ planned-bare n all e most b h k =
       frame = rw h;
       entry = rw (eq-eqb (e / 2) 0 h, z) k;
       stamp = refl;
-      reads = rw (eq-eqb (e / 2) 0 h, z)
+      reads = rw (eq-eqb (e / 2) 0 h, z);
     }
 
 pub planned-framed : (n all e most : ℕ) → (e / 2 ≡ 0 → ⊥) → n ≡ all
@@ -52,7 +52,7 @@ planned-framed n all e most h k =
       frame = refl;
       entry = rw (eq-eqb n all k, ne-eqb (e / 2) 0 h) (omega arith);
       stamp = refl;
-      reads = rw (eq-eqb n all k, ne-eqb (e / 2) 0 h)
+      reads = rw (eq-eqb n all k, ne-eqb (e / 2) 0 h);
     }
 
 pub planned-freed : (n all e most : ℕ) → (e / 2 ≡ 0 → ⊥) → (n ≡ all → ⊥)
@@ -64,7 +64,7 @@ planned-freed n all e most h k =
       frame = refl;
       entry = rw (ne-eqb n all k);
       stamp = refl;
-      reads = rw (ne-eqb n all k)
+      reads = rw (ne-eqb n all k);
     }
 
 -- `write_page`: the frame's bytes, and the records folded in
@@ -185,10 +185,11 @@ module _ (fixed marks log stored tables online pool : List ℕ) (p : ℕ) (z : S
   pub page-there : Shaped lent → p < pagesOf lent → (p * z .size + z .size ≤ length stored) × (r .frame * z .size + z .size ≤ length pool) × (z .count * 19 ≤ length online)
   page-there w h =
       let y = w .sized in
-      let f : r .frame < framesOf lent = omega (arith, entry-below lent p w h, meant .frame) in
-      (rw (m .size) (one-fits p (pagesOf lent) (sizeOf lent) (length stored) h (y .stored)),
-      rw (m .size) (one-fits (r .frame) (framesOf lent) (sizeOf lent) (length pool) f (y .pool)),
-      rw (m .count) (omega (arith, w .count, y .online)))
+      let f : r .frame < framesOf lent = omega (arith, entry-below lent p w h, meant .frame) in (
+        rw (m .size) (one-fits p (pagesOf lent) (sizeOf lent) (length stored) h (y .stored)),
+        rw (m .size) (one-fits (r .frame) (framesOf lent) (sizeOf lent) (length pool) f (y .pool)),
+        rw (m .count) (omega (arith, w .count, y .online)),
+      )
 
   pub tables-there : Shaped lent → p < pagesOf lent → (entryAt (z .frames) p < length tables) × (getD tables 2 0 ≤ z .frames) × (z .frames ≤ 64) × (length online ≡ z .room * 19) × (z .count ≤ z .room)
   tables-there w h = let y = w .sized in rw (m .frames, m .room, m .count) (omega arith, w .used, y .frames, omega arith, w .count)

@@ -161,13 +161,13 @@ module _ (s : Lent) (p : ℕ) (w : Shaped s) (h : p < pagesOf s) where
               stored = stored-length;
               tables = tables-length (framesOf s) (length (unfolded s p)) (compactedOrder s p) entered entered-room ∙ entered-length;
               online = length-kept-table (λ (r : List ℕ). not (gone false 0 p r)) (countOf s) (roomOf s) (s .lost .online) (w .count) online-length ∙ omega arith;
-              pool = z .pool
+              pool = z .pool;
             };
         logged = rw (num-put-below 4 4 (s .durable .marks) (stampAt p) (greatest 0 (foldable s p)) 8 (omega arith)) (w .logged);
         count = omega (arith, written-count, left-count, w .count);
         used = omega (arith, written-used, order-fewer, w .used);
         entries = ap (λ (l : List ℕ). every (λ (e : ℕ). leb (e / 2) (framesOf s)) l) written-entries ∙ entered-entries;
-        order = ap (λ (l : List ℕ). every (λ (f : ℕ). ltb f (framesOf s)) l) written-order ∙ order-names
+        order = ap (λ (l : List ℕ). every (λ (f : ℕ). ltb f (framesOf s)) l) written-order ∙ order-names;
       }
 
 -- and so as a step

@@ -16,7 +16,6 @@ ghost use Rattle.rules.specs.Lent.{lentOf, pagesOf, pageIn, withPage, withOrder
 ghost use Rattle.rules.specs.Shape.{Shaped};
 ghost use Rattle.rules.specs.Steps.{due, compacted, compactStep};
 ghost use Rattle.compact.specs.Planned.{Measured, Planned};
-
 use number::FrameNo;
 use number::PageNo;
 use order::Order;
@@ -65,7 +64,18 @@ fn due_by(n: u64, age: u64, min_del: u64, max_age: u64) -> bool
 }
 
 // Whether compact is due for page p.
-pub fn is_due(fixed: &[u8], marks: &[u8], log: &[u8], stored: &[u8], tables: &[u8], online: &[u8], pool: &[u8], p: PageNo, min_del: u64, max_age: u64) -> bool
+pub fn is_due(
+    fixed: &[u8],
+    marks: &[u8],
+    log: &[u8],
+    stored: &[u8],
+    tables: &[u8],
+    online: &[u8],
+    pool: &[u8],
+    p: PageNo,
+    min_del: u64,
+    max_age: u64,
+) -> bool
     requires { ⌜ Shaped (lentOf (now fixed) (now marks) (now log) (now stored) (now tables) (now online) (now pool)) ⌝ }
     ensures { λ r. ⌜ r ≡ due (lentOf (now (fixed .entry)) (now (marks .entry)) (now (log .entry)) (now (stored .entry)) (now (tables .entry)) (now (online .entry)) (now (pool .entry))) (p .0) «min_del» «max_age» ⌝ }
 {
@@ -83,7 +93,12 @@ fn measure(fixed: &[u8], tables: &[u8]) -> Sizes
     let frames = word::load(fixed, 8, 4) as usize;
     let room = word::load(fixed, 12, 4) as usize;
     let count = word::load(tables, 0, 2) as usize;
-    Sizes { size, frames, room, count }
+    Sizes {
+        size,
+        frames,
+        room,
+        count,
+    }
 }
 
 // The entry of a page in no frame: absent where all its records were committed, else evicted.
@@ -100,13 +115,34 @@ fn plan_by(s: Survey, e: u8) -> Plan
     let half = e / 2;
     let stamp = s.most;
     if half == 0 {
-        return Plan { framed: false, frees: false, frame: 0, entry: bare(s.committed, s.all), stamp, reads: 1 };
+        return Plan {
+            framed: false,
+            frees: false,
+            frame: 0,
+            entry: bare(s.committed, s.all),
+            stamp,
+            reads: 1,
+        };
     }
     let frame = half as usize - 1;
     if s.committed == s.all {
-        return Plan { framed: true, frees: false, frame, entry: half * 2, stamp, reads: 0 };
+        return Plan {
+            framed: true,
+            frees: false,
+            frame,
+            entry: half * 2,
+            stamp,
+            reads: 0,
+        };
     }
-    Plan { framed: false, frees: true, frame, entry: 1, stamp, reads: 1 }
+    Plan {
+        framed: false,
+        frees: true,
+        frame,
+        entry: 1,
+        stamp,
+        reads: 1,
+    }
 }
 
 fn plan_for(tables: &[u8], online: &[u8], z: Sizes, p: PageNo) -> Plan
@@ -118,7 +154,16 @@ fn plan_for(tables: &[u8], online: &[u8], z: Sizes, p: PageNo) -> Plan
 }
 
 // The page in place among the stored pages: its frame's bytes, or its committed records folded in.
-fn write_page(stored: &mut [u8], size: usize, p: PageNo, online: &[u8], m: usize, pool: &[u8], framed: bool, frame: usize)
+fn write_page(
+    stored: &mut [u8],
+    size: usize,
+    p: PageNo,
+    online: &[u8],
+    m: usize,
+    pool: &[u8],
+    framed: bool,
+    frame: usize,
+)
     requires { ⌜ (p .0 * size + size ≤ length (now stored)) × (frame * size + size ≤ length (now pool)) × (m * 19 ≤ length (now online)) ⌝ }
     ensures { λ r. ⌜ now (stored .exit) ≡ withPage size (p .0) (now (stored .entry)) (cond framed (pageIn size frame (now (pool .entry))) (applied (keep (committedOn (p .0)) (rows 19 m (now (online .entry)) 0)) (pageIn size (p .0) (now (stored .entry))))) ⌝ }
 {
@@ -174,7 +219,16 @@ fn compact_lost(tables: &mut [u8], online: &mut [u8], z: Sizes, p: PageNo, plan:
 }
 
 // Compact, on all the lent areas: the page is written, due or not.
-pub fn compact_page(fixed: &[u8], marks: &mut [u8], log: &[u8], stored: &mut [u8], tables: &mut [u8], online: &mut [u8], pool: &[u8], p: PageNo) -> Compacted
+pub fn compact_page(
+    fixed: &[u8],
+    marks: &mut [u8],
+    log: &[u8],
+    stored: &mut [u8],
+    tables: &mut [u8],
+    online: &mut [u8],
+    pool: &[u8],
+    p: PageNo,
+) -> Compacted
     requires { ⌜ Shaped (lentOf (now fixed) (now marks) (now log) (now stored) (now tables) (now online) (now pool)) × (p .0 < pagesOf (lentOf (now fixed) (now marks) (now log) (now stored) (now tables) (now online) (now pool))) ⌝ }
     ensures reads { λ r. ⌜ r .reads ≡ compacted (lentOf (now (fixed .entry)) (now (marks .entry)) (now (log .entry)) (now (stored .entry)) (now (tables .entry)) (now (online .entry)) (now (pool .entry))) (p .0) .reads ⌝ }
     ensures writes { λ r. ⌜ r .writes ≡ compacted (lentOf (now (fixed .entry)) (now (marks .entry)) (now (log .entry)) (now (stored .entry)) (now (tables .entry)) (now (online .entry)) (now (pool .entry))) (p .0) .writes ⌝ }
@@ -182,21 +236,58 @@ pub fn compact_page(fixed: &[u8], marks: &mut [u8], log: &[u8], stored: &mut [u8
 {
     let z = measure(fixed, tables);
     let plan = plan_for(tables, online, z, p);
-    write_page(stored, z.size, p, online, z.count, pool, plan.framed, plan.frame);
+    write_page(
+        stored,
+        z.size,
+        p,
+        online,
+        z.count,
+        pool,
+        plan.framed,
+        plan.frame,
+    );
     compact_lost(tables, online, z, p, plan);
     word::store(marks, 12 + 4 * p.0, 4, plan.stamp);
-    Compacted { reads: plan.reads, writes: 1 }
+    Compacted {
+        reads: plan.reads,
+        writes: 1,
+    }
 }
 
 // Compact as a step: nothing changes where it is not due.
-pub fn compact_step(fixed: &[u8], marks: &mut [u8], log: &[u8], stored: &mut [u8], tables: &mut [u8], online: &mut [u8], pool: &[u8], p: PageNo, min_del: u64, max_age: u64) -> Compacted
+pub fn compact_step(
+    fixed: &[u8],
+    marks: &mut [u8],
+    log: &[u8],
+    stored: &mut [u8],
+    tables: &mut [u8],
+    online: &mut [u8],
+    pool: &[u8],
+    p: PageNo,
+    min_del: u64,
+    max_age: u64,
+) -> Compacted
     requires { ⌜ Shaped (lentOf (now fixed) (now marks) (now log) (now stored) (now tables) (now online) (now pool)) × (p .0 < pagesOf (lentOf (now fixed) (now marks) (now log) (now stored) (now tables) (now online) (now pool))) ⌝ }
     ensures reads { λ r. ⌜ r .reads ≡ compactStep «min_del» «max_age» (lentOf (now (fixed .entry)) (now (marks .entry)) (now (log .entry)) (now (stored .entry)) (now (tables .entry)) (now (online .entry)) (now (pool .entry))) (p .0) .reads ⌝ }
     ensures writes { λ r. ⌜ r .writes ≡ compactStep «min_del» «max_age» (lentOf (now (fixed .entry)) (now (marks .entry)) (now (log .entry)) (now (stored .entry)) (now (tables .entry)) (now (online .entry)) (now (pool .entry))) (p .0) .writes ⌝ }
     ensures lent { λ r. ⌜ lentOf (now (fixed .entry)) (now (marks .exit)) (now (log .entry)) (now (stored .exit)) (now (tables .exit)) (now (online .exit)) (now (pool .entry)) ≡ compactStep «min_del» «max_age» (lentOf (now (fixed .entry)) (now (marks .entry)) (now (log .entry)) (now (stored .entry)) (now (tables .entry)) (now (online .entry)) (now (pool .entry))) (p .0) .lent ⌝ }
 {
-    if !is_due(fixed, marks, log, stored, tables, online, pool, p, min_del, max_age) {
-        return Compacted { reads: 0, writes: 0 };
+    if !is_due(
+        fixed,
+        marks,
+        log,
+        stored,
+        tables,
+        online,
+        pool,
+        p,
+        min_del,
+        max_age,
+    ) {
+        return Compacted {
+            reads: 0,
+            writes: 0,
+        };
     }
     compact_page(fixed, marks, log, stored, tables, online, pool, p)
 }

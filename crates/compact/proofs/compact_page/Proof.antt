@@ -50,11 +50,14 @@ returns : tie.Need-returns
 returns c =
     let a = c .before .before .before .before .before .before .before .before .before .before .before .before .before .before .before .before .before .before .before .before .before .before .before .before .before .before .before .before .before .args in
     let m = c .before .before .before .before .before .before .before .before .before .before .before .before .before .before .before .before .before .before .before .before .measure in
-    let k = c .before .before .before .before .before .before .before .before .before .before .before .before .before .before .before .before .before .plan-for in
-    (reads-done (now (a .fixed)) (now (a .marks)) (now (a .log)) (now (a .stored)) (now (a .tables)) (now (a .online)) (now (a .pool)) (a .p .0) (m .result) (k .result) (m .ensures) (k .ensures),
-    (writes-done (lentOf (now (a .fixed)) (now (a .marks)) (now (a .log)) (now (a .stored)) (now (a .tables)) (now (a .online)) (now (a .pool))) (a .p .0),
-    lent-done (now (a .fixed)) (now (a .marks)) (now (a .log)) (now (a .stored)) (now (a .tables)) (now (a .online)) (now (a .pool)) (a .p .0) (m .result) (k .result) (m .ensures) (k .ensures) _ _ _ _
-    (c .before .before .before .before .before .before .before .before .before .before .before .before .before .before .write-page .ensures) (c .before .before .before .before .before .before .before .before .before .compact-lost .ensures .0) (c .before .before .before .before .before .before .before .before .before .compact-lost .ensures .1) (c .before .before .store .ensures)))
+    let k = c .before .before .before .before .before .before .before .before .before .before .before .before .before .before .before .before .before .plan-for in (
+      reads-done (now (a .fixed)) (now (a .marks)) (now (a .log)) (now (a .stored)) (now (a .tables)) (now (a .online)) (now (a .pool)) (a .p .0) (m .result) (k .result) (m .ensures) (k .ensures),
+      (
+        writes-done (lentOf (now (a .fixed)) (now (a .marks)) (now (a .log)) (now (a .stored)) (now (a .tables)) (now (a .online)) (now (a .pool))) (a .p .0),
+        lent-done (now (a .fixed)) (now (a .marks)) (now (a .log)) (now (a .stored)) (now (a .tables)) (now (a .online)) (now (a .pool)) (a .p .0) (m .result) (k .result) (m .ensures) (k .ensures) _ _ _ _
+            (c .before .before .before .before .before .before .before .before .before .before .before .before .before .before .write-page .ensures) (c .before .before .before .before .before .before .before .before .before .compact-lost .ensures .0) (c .before .before .before .before .before .before .before .before .before .compact-lost .ensures .1) (c .before .before .store .ensures),
+      ),
+    )
 
 pub compact-page-spec : {M : Type 1} → statement M
 compact-page-spec =
