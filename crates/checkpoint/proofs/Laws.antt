@@ -1,5 +1,5 @@
 -- The state after the first j compactions: at the start, a turn, at the end; and close after the last.
-use Prim.Native.Nat.{ℕ, zero, suc, _+_, _*_, _-_, _≤_, _<_}
+use Prim.Native.Nat.{ℕ, suc, _+_, _*_, _≤_, _<_}
 use native.Mathlib.Omega.{arith}
 use native.Mathlib.Numerals.{add-one}
 use mathlib.Core.Path.{_≡_, refl, sym, ap, _∙_}
@@ -8,7 +8,7 @@ use mathlib.Core.List.{List}
 use lib.ListN.{length}
 use Rattle.word.specs.Word.{num}
 use Rattle.rules.specs.Lent.{Lent, pagesOf, lastOf, loggedOf}
-use Rattle.rules.specs.Shape.{Sized, Shaped}
+use Rattle.rules.specs.Shape.{Shaped}
 use Rattle.rules.specs.Steps.{due, fromFrame, compacted, compactStep, closed, afterPages, checkpointed}
 use Rattle.compact.proofs.Shapes.{fixed-step, last-step, logged-step, shaped-step}
 

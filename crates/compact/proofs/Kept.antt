@@ -1,12 +1,12 @@
 -- What is read back after a write, in its place and elsewhere: numbers, parts, the use order, tests of every element, rows.
-use Prim.Native.Nat.{ℕ, zero, suc, _+_, _*_, _-_, _/_, _%_, _^_, _≤_, _<_, min}
+use Prim.Native.Nat.{ℕ, zero, suc, _+_, _*_, _/_, _%_, _^_, _≤_, _<_}
 use native.Mathlib.Omega.{arith}
 use native.Mathlib.Nat.{pow-suc}
 use mathlib.Core.Path.{_≡_, refl, sym, ap, _∙_}
 use mathlib.Core.Bool.{Bool, true, false, cond, _&&_}
 use mathlib.Core.List.{List, [], _∷_, _++_}
-use lib.ListN.{length, getD, take, drop, set, replicate, length-append, length-take, length-drop, length-set, length-replicate, List·getD-append}
-use lib.Seq.{getD-set-same, getD-set-other, getD-take, getD-drop, take-set-le, drop-set-lt, drop-set-add, take-set-lt, take-at, drop-at, take-take, length-take-le, set-out}
+use lib.ListN.{length, getD, take, drop, set, replicate, length-append, length-drop, length-set, length-replicate, List·getD-append}
+use lib.Seq.{getD-set-same, getD-set-other, getD-take, take-set-le, drop-set-lt, drop-set-add, take-set-lt, take-at, drop-at, take-take, length-take-le}
 use lib.Dec.{eqb}
 use Rattle.word.specs.Word.{num, put}
 use Rattle.word.proofs.Laws.{length-put}
@@ -114,9 +114,6 @@ module _ (frames count : ℕ) (o t : List ℕ) (h : 35 + frames ≤ length t) wh
   ordered-length : length ordered ≡ length t
   unfolding ordered
   ordered-length = length-with 35 frames t filled h filled-length
-
-  tabled : List ℕ
-  tabled = withCount count (withOrder frames o t)
 
   pub tables-length : length (withCount count (withOrder frames o t)) ≡ length t
   unfolding ordered filled

@@ -1,5 +1,5 @@
 -- Laws of compact's functions: what was read and decided is what the step says.
-use Prim.Native.Nat.{ℕ, zero, suc, _+_, _*_, _-_, _/_, _≤_, _<_}
+use Prim.Native.Nat.{ℕ, _+_, _*_, _-_, _/_, _≤_, _<_}
 use native.Mathlib.Omega.{arith}
 use native.Mathlib.Nat.{mul-le-mul, mul-comm, add-mul, one-mul}
 use mathlib.Core.Path.{_≡_, refl, sym, ap, _∙_}
@@ -14,8 +14,8 @@ use Rattle.record.specs.Rows.{rows, keep, table}
 use Rattle.record.specs.Record.{onPage, committedOn, applied, gone, smallest, greatest}
 use Rattle.record.proofs.Laws.{getD-part}
 use Rattle.order.specs.Order.{without}
-use Rattle.rules.specs.Lent.{Lent, lentOf, sizeOf, pagesOf, framesOf, roomOf, countOf, stampAt, orderOf, entryAt, entryOf, entriesOf, onlineOf, inFrame, frameOf, pageIn, withPage, withOrder, withCount}
-use Rattle.rules.specs.Shape.{Sized, Shaped}
+use Rattle.rules.specs.Lent.{Lent, lentOf, sizeOf, pagesOf, framesOf, roomOf, stampAt, orderOf, entryAt, entryOf, entriesOf, onlineOf, inFrame, frameOf, pageIn, withPage, withOrder, withCount}
+use Rattle.rules.specs.Shape.{Shaped}
 use Rattle.rules.specs.Steps.{due, foldable, fromFrame, compactedPage, compactedEntry, compactedOrder, unfolded, compacted, compactStep}
 use Rattle.compact.specs.declared.Plan.{Plan}
 use Rattle.compact.specs.declared.Sizes.{Sizes}

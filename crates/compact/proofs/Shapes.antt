@@ -1,27 +1,26 @@
 -- Compact keeps the shape of the lent tables, L, n and what is fixed.
-use Prim.Native.Nat.{ℕ, zero, suc, _+_, _*_, _-_, _/_, _≤_, _<_}
+use Prim.Native.Nat.{ℕ, _+_, _*_, _/_, _≤_, _<_}
 use native.Mathlib.Omega.{arith}
-use mathlib.Core.Path.{_≡_, refl, sym, ap, _∙_, subst}
+use mathlib.Core.Path.{_≡_, refl, ap, _∙_}
 use mathlib.Core.Bool.{Bool, true, false, cond, not}
 use mathlib.Core.List.{List}
-use lib.ListN.{length, getD, take, drop, set, length-set}
-use lib.Seq.{drop-set-add, take-set-lt}
+use lib.ListN.{length, getD, take, set, length-set}
 use lib.Dec.{eqb, leb, ltb}
-use borrow.Author.Tests.{eqb-true, le-leb, leb-true}
-use Rattle.word.specs.Word.{num, put}
+use borrow.Author.Tests.{le-leb}
+use Rattle.word.specs.Word.{num}
 use Rattle.word.proofs.Laws.{length-put}
 use Rattle.record.specs.Part.{part}
-use Rattle.record.specs.Rows.{rows, keep}
+use Rattle.record.specs.Rows.{keep}
 use Rattle.record.specs.Record.{onPage, gone, greatest, applied}
 use Rattle.apply.proofs.Laws.{length-applied}
 use Rattle.table.proofs.Laws.{keep-length, length-rows}
 use Rattle.order.specs.Order.{without}
 use Rattle.order.proofs.Laws.{length-without}
-use Rattle.rules.specs.Lent.{Lent, lentOf, sizeOf, pagesOf, framesOf, roomOf, spanOf, lastOf, loggedOf, countOf, usedOf, stampAt, orderOf, entryAt, entryOf, entriesOf, onlineOf, inFrame, frameOf, cleanIn, pageIn, withPage, withOrder, withCount}
+use Rattle.rules.specs.Lent.{Lent, sizeOf, pagesOf, framesOf, roomOf, lastOf, loggedOf, countOf, usedOf, stampAt, orderOf, entryAt, entryOf, entriesOf, onlineOf, inFrame, frameOf, cleanIn, pageIn, withPage, withOrder, withCount}
 use Rattle.rules.specs.Sound.{every}
-use Rattle.rules.specs.Shape.{Sized, Shaped}
-use Rattle.rules.specs.Steps.{due, foldable, freedOf, fromFrame, compactedPage, compactedEntry, compactedOrder, unfolded, compacted, compactStep}
-use Rattle.compact.proofs.Kept.{num-put-below, drop-put, length-part, length-with, part-set, tables-length, tables-count, tables-used, tables-order, tables-behind, every-set, every-without, length-kept-table}
+use Rattle.rules.specs.Shape.{Shaped}
+use Rattle.rules.specs.Steps.{due, foldable, fromFrame, compactedPage, compactedEntry, compactedOrder, unfolded, compacted, compactStep}
+use Rattle.compact.proofs.Kept.{num-put-below, length-part, length-with, part-set, tables-length, tables-count, tables-used, tables-order, tables-behind, every-set, every-without, length-kept-table}
 use Rattle.compact.proofs.Laws.{one-fits, entry-below}
 
 -- what is fixed, L and n

@@ -6,7 +6,6 @@ ghost use mathlib.Core.List.{List};
 ghost use Prim.Native.Nat.{ℕ, _+_, _*_, _-_, _/_, _≤_, _<_};
 ghost use lib.ListN.{length, getD, set};
 ghost use lib.Dec.{eqb, leb};
-ghost use Rattle.word.specs.Word.{num, put};
 ghost use Rattle.record.specs.Part.{part};
 ghost use Rattle.record.specs.Rows.{rows, keep, table};
 ghost use Rattle.record.specs.Record.{onPage, committedOn, applied, gone, greatest};
