@@ -21,7 +21,16 @@ mod dirty; // S12
 mod apart; // S13
 
 // The rows by themselves, with their owners and the log.
-fn sound_rows(online: &[u8], m: usize, log: &[u8], n: usize, tables: &[u8], size: usize, pages: usize, last: u64) -> bool
+fn sound_rows(
+    online: &[u8],
+    m: usize,
+    log: &[u8],
+    n: usize,
+    tables: &[u8],
+    size: usize,
+    pages: usize,
+    last: u64,
+) -> bool
     requires { ⌜ (m * 19 ≤ length (now online)) × (n * 14 ≤ length (now log)) × (n ≤ last) × (last < 4294967296) × (35 ≤ length (now tables)) ⌝ }
     ensures { λ r. ⌜ r ≡ (every (wellFormed size pages) (rows 19 m (now (online .entry)) 0) && every (owned (now (tables .entry)) last) (rows 19 m (now (online .entry)) 0) && zeros (drop (m * 19) (now (online .entry))) && every (inLog (now (log .entry)) (last - n + 1)) (rows 19 m (now (online .entry)) 0)) ⌝ }
 {
@@ -38,7 +47,15 @@ fn sound_rows(online: &[u8], m: usize, log: &[u8], n: usize, tables: &[u8], size
 }
 
 // The rows with the stamps, the entries and one another.
-fn sound_ties(online: &[u8], m: usize, first: u64, marks: &[u8], tables: &[u8], pages: usize, frames: usize) -> bool
+fn sound_ties(
+    online: &[u8],
+    m: usize,
+    first: u64,
+    marks: &[u8],
+    tables: &[u8],
+    pages: usize,
+    frames: usize,
+) -> bool
     requires { ⌜ (m * 19 ≤ length (now online)) × (length (now marks) ≡ 12 + 8 * pages) × (length (now tables) ≡ 35 + frames + pages) × (pages ≤ 1024) × (every (pageBelow pages) (rows 19 m (now online) 0) ≡ true) × (every (slotted first) (rows 19 m (now online) 0) ≡ true) ⌝ }
     ensures { λ r. ⌜ r ≡ (every (aboveStamp (now (marks .entry))) (rows 19 m (now (online .entry)) 0) && pairs otherNumber (rows 19 m (now (online .entry)) 0) && upTo (entryAgrees (part (35 + frames) pages (now (tables .entry))) (rows 19 m (now (online .entry)) 0)) pages 0 && pairs apart (rows 19 m (now (online .entry)) 0)) ⌝ }
 {

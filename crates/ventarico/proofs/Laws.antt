@@ -55,14 +55,14 @@ pub told-not-due : (v : Verdict) (s : Lent) (b : Bool) (o : Outcome) (r : Reply)
 told-not-due v s b o r e f h =
     record {
       reply = h ∙ sym (λ i. replyOf (settled (e i) s [] (dueOr (f i) s o) .answer));
-      lent = sym (λ i. settled (e i) s [] (dueOr (f i) s o) .lent)
+      lent = sym (λ i. settled (e i) s [] (dueOr (f i) s o) .lent);
     }
 
 pub told-due : (v : Verdict) (s : Lent) (b : Bool) (d : Left) (r : Reply) (t : Lent) → v ≡ Go → b ≡ true → r ≡ doneAs (d .reads) (d .writes) (d .logs) → t ≡ d .lent → Told (settled v s [] (dueOr b s (doneWith d []))) r t
 told-due v s b d r t e f h l =
     record {
       reply = h ∙ sym (λ i. replyOf (settled (e i) s [] (dueOr (f i) s (doneWith d [])) .answer));
-      lent = l ∙ sym (λ i. settled (e i) s [] (dueOr (f i) s (doneWith d [])) .lent)
+      lent = l ∙ sym (λ i. settled (e i) s [] (dueOr (f i) s (doneWith d [])) .lent);
     }
 
 -- a test's value from the call that asked it

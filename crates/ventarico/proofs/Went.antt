@@ -188,17 +188,17 @@ format-went s size pages frames room span e =
     let fits : Bool = eqb (length (s .durable .fixed)) 20 && exactLengths s size pages frames room span in
     let a = went (not (inRange size pages frames room span)) (Argument Parameter) (refuseIf (not fits) (Argument LentLength) Go) e in
     let b = went (not fits) (Argument LentLength) Go (a .1) in
-    let d : fits ≡ true = holds fits (b .0) in
-    (holds (inRange size pages frames room span) (a .0),
-    eqb-true (length (s .durable .fixed)) 20 (and-left (eqb (length (s .durable .fixed)) 20) (exactLengths s size pages frames room span) d),
-    and-right (eqb (length (s .durable .fixed)) 20) (exactLengths s size pages frames room span) d)
+    let d : fits ≡ true = holds fits (b .0) in (
+      holds (inRange size pages frames room span) (a .0),
+      eqb-true (length (s .durable .fixed)) 20 (and-left (eqb (length (s .durable .fixed)) 20) (exactLengths s size pages frames room span) d),
+      and-right (eqb (length (s .durable .fixed)) 20) (exactLengths s size pages frames room span) d,
+    )
 
 -- rows past the counts are zero
 pub log-zero : (s : Lent) → sound s ≡ true → zeros (drop (loggedOf s * 14) (s .durable .log)) ≡ true
 unfolding soundDurable s14-log-zero
 log-zero s e =
     and-right (s1-parameters s && s2-lengths s && s3-logged s && s16-logged s && s18-first s && s15-stamps s && s17-s19-dirty s && s7-log-records s) (s14-log-zero s) (sound-durable s e)
-
 
 pub online-zero : (s : Lent) → sound s ≡ true → zeros (drop (countOf s * 19) (s .lost .online)) ≡ true
 unfolding soundLost s14-online-zero

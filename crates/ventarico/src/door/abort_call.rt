@@ -13,12 +13,20 @@ ghost use Rattle.record.specs.Record.{ownedBy};
 ghost use Rattle.table.specs.Stays.{stays};
 ghost use Rattle.rules.specs.Lent.{liveAt, withOrder, withCount};
 ghost use Rattle.rules.specs.Steps.{framesFreed, judgedAnew};
-
 use rules::Reply;
 use rules::Verdict;
 
 #[no_mangle]
-pub extern "C" fn ventarico_abort(fixed: &[u8], marks: &[u8], log: &[u8], stored: &[u8], tables: &mut [u8], online: &mut [u8], pool: &[u8], number: u32) -> Reply
+pub extern "C" fn ventarico_abort(
+    fixed: &[u8],
+    marks: &[u8],
+    log: &[u8],
+    stored: &[u8],
+    tables: &mut [u8],
+    online: &mut [u8],
+    pool: &[u8],
+    number: u32,
+) -> Reply
     ensures { λ r. ⌜ Told (abortCall (lentOf (now (fixed .entry)) (now (marks .entry)) (now (log .entry)) (now (stored .entry)) (now (tables .entry)) (now (online .entry)) (now (pool .entry))) number) r
         (lentOf (now (fixed .entry)) (now (marks .entry)) (now (log .entry)) (now (stored .entry)) (now (tables .exit)) (now (online .exit)) (now (pool .entry))) ⌝ }
 {
@@ -40,5 +48,12 @@ fn abort_owner(fixed: &[u8], tables: &mut [u8], online: &mut [u8], owner: u8)
 {
     let given = durable::params_of(fixed);
     let m = word::load(tables, 0, 2) as usize;
-    steps::abort::abort(tables, online, given.frames as usize, m, given.room as usize, owner);
+    steps::abort::abort(
+        tables,
+        online,
+        given.frames as usize,
+        m,
+        given.room as usize,
+        owner,
+    );
 }

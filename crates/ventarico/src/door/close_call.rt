@@ -2,12 +2,19 @@
 ghost use Rattle.rules.specs.Lent.{lentOf};
 ghost use Rattle.rules.specs.Calls.{closeCall};
 ghost use Rattle.ventarico.specs.Said.{Told};
-
 use rules::Reply;
 use rules::Verdict;
 
 #[no_mangle]
-pub extern "C" fn ventarico_close(fixed: &[u8], marks: &mut [u8], log: &mut [u8], stored: &[u8], tables: &[u8], online: &[u8], pool: &[u8]) -> Reply
+pub extern "C" fn ventarico_close(
+    fixed: &[u8],
+    marks: &mut [u8],
+    log: &mut [u8],
+    stored: &[u8],
+    tables: &[u8],
+    online: &[u8],
+    pool: &[u8],
+) -> Reply
     ensures { λ r. ⌜ Told (closeCall (lentOf (now (fixed .entry)) (now (marks .entry)) (now (log .entry)) (now (stored .entry)) (now (tables .entry)) (now (online .entry)) (now (pool .entry)))) r
         (lentOf (now (fixed .entry)) (now (marks .exit)) (now (log .exit)) (now (stored .entry)) (now (tables .entry)) (now (online .entry)) (now (pool .entry))) ⌝ }
 {

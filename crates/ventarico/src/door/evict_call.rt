@@ -7,7 +7,16 @@ use rules::Reply;
 use rules::Verdict;
 
 #[no_mangle]
-pub extern "C" fn ventarico_evict(fixed: &[u8], marks: &[u8], log: &[u8], stored: &[u8], tables: &mut [u8], online: &[u8], pool: &[u8], page: u32) -> Reply
+pub extern "C" fn ventarico_evict(
+    fixed: &[u8],
+    marks: &[u8],
+    log: &[u8],
+    stored: &[u8],
+    tables: &mut [u8],
+    online: &[u8],
+    pool: &[u8],
+    page: u32,
+) -> Reply
     ensures { λ r. ⌜ Told (evictCall (lentOf (now (fixed .entry)) (now (marks .entry)) (now (log .entry)) (now (stored .entry)) (now (tables .entry)) (now (online .entry)) (now (pool .entry))) page) r
         (lentOf (now (fixed .entry)) (now (marks .entry)) (now (log .entry)) (now (stored .entry)) (now (tables .exit)) (now (online .entry)) (now (pool .entry))) ⌝ }
 {
