@@ -1,0 +1,17 @@
+/* Every function of include/ventarico.h, called as the firmware calls it. What must come of a call is written down by
+ * hand from document 01 and docs/LAYOUT.md, byte by byte. tests/c/run builds and runs this. */
+#include "store.h"
+#include "topics.h"
+
+int main(void)
+{
+    checks_begin();
+    cases();
+    faults();
+    steps();
+    refusals();
+    soundness();
+    ranges();
+    clerk();
+    return checks_end();
+}

@@ -1,0 +1,13 @@
+/* The topics that calls.c goes through, each in a file of its name. */
+#ifndef TOPICS_H
+#define TOPICS_H
+
+void cases(void);
+void faults(void);
+void steps(void);
+void refusals(void);
+void soundness(void);
+void ranges(void);
+void clerk(void);
+
+#endif
