@@ -101,6 +101,23 @@ ventarico_reply ventarico_format(uint8_t *fixed, size_t fixed_len, uint8_t *mark
     uint8_t *online, size_t online_len, const uint8_t *pool, size_t pool_len,
     uint32_t page_size, uint32_t pages, uint32_t frames, uint32_t online_size, uint32_t log_size, uint32_t last);
 
+/* The clerk alone, apart from any store: a caller with tables of its own lends the numbers that are live and the last
+ * log number, with any values. Each answers 0, or a code above with the struct as it was. The pointer is not NULL, and
+ * is aligned and valid for writing. */
+struct ventarico_clerk {
+    uint8_t live[32]; /* number t, 1 to 32: live where live[t - 1] is 1 */
+    uint32_t last;    /* the last log number */
+};
+
+/* Makes the number live: 2 if it is not 1 to 32, 5 if it is live already. */
+uint8_t ventarico_clerk_begin(struct ventarico_clerk *clerk, uint32_t number);
+
+/* Ends the transaction: 2 if the number is not 1 to 32, 4 if it is not live. */
+uint8_t ventarico_clerk_abort(struct ventarico_clerk *clerk, uint32_t number);
+
+/* Ends the transaction and takes log numbers for its records: 2, 4, or 9 if last would be above 4,294,967,295. */
+uint8_t ventarico_clerk_commit(struct ventarico_clerk *clerk, uint32_t number, uint32_t records);
+
 #ifdef __cplusplus
 }
 #endif

@@ -1,4 +1,4 @@
--- `clerk::ventarico_clerk_abort` meets its contract: a walk of its MIR, by hand. The borrow is opened, the record is copied out and passed to `Clerk::abort`, the record that comes back is stored whole, and the borrow is closed at it.
+-- `ventarico::clerk_call::ventarico_clerk_begin` meets its contract: a walk of its MIR, by hand. The borrow is opened, the record is copied out and passed to `Clerk::begin`, the record that comes back is stored whole, and the borrow is closed at it.
 -- All that the proof knows of the callee is that it meets its contract.
 -- Assumes nothing.
 use mathlib.Core.Path.{_≡_, refl, ap}
@@ -39,21 +39,21 @@ use denote.Triple.Table.{entered, cited}
 use denote.Triple.Walked.{says, Stays, stay-ref, stay-none, walkOf, AllGo, goes-none, goes-ref, Walks, ends-at, walked, walk-meets}
 use denote.Triple.Clauses.{ensured, lasts}
 use denote.Exit.{yes}
 use Rattle.clerk.specs.declared.Clerk.{Clerk}
 use Rattle.clerk.specs.declared.Ruled.{Ruled}
-use Rattle.clerk.specs.Rule.{aborts}
+use Rattle.clerk.specs.Rule.{begins}
 use Rattle.clerk.proofs.Clerk as T
 use Rattle.clerk.proofs.Clerk.Laws as T′
 use Rattle.clerk.proofs.Ruled as B
 use Rattle.clerk.proofs.Ruled.Laws as B′
-use Rattle.clerk.proofs.Clerk.abort as callee
-use Rattle.clerk.proofs.Clerk.abort.Symbol as callee-def
-use Rattle.clerk.proofs.Clerk.abort.Symbol.{name as #callee}
-use Rattle.clerk.proofs.Clerk.abort.Met as callee-thm
-use Rattle.clerk.proofs.ventarico_clerk_abort.Key.{name as #self}
-use Rattle.clerk.proofs.ventarico_clerk_abort as self
-use Rattle.clerk.proofs.ventarico_clerk_abort.Statement as stated
-use Rattle.clerk.proofs.ventarico_clerk_abort.Code as code
+use Rattle.clerk.proofs.Clerk.begin as callee
+use Rattle.clerk.proofs.Clerk.begin.Symbol as callee-def
+use Rattle.clerk.proofs.Clerk.begin.Symbol.{name as #callee}
+use Rattle.clerk.proofs.Clerk.begin.Met as callee-thm
+use Rattle.ventarico.proofs.clerk_call.ventarico_clerk_begin.Key.{name as #self}
+use Rattle.ventarico.proofs.clerk_call.ventarico_clerk_begin as self
+use Rattle.ventarico.proofs.clerk_call.ventarico_clerk_begin.Statement as stated
+use Rattle.ventarico.proofs.clerk_call.ventarico_clerk_begin.Code as code
 
 abbrev Arg : Type 0
 Arg = RefT Clerk × (ℕ × Unit {0})
@@ -80,7 +80,7 @@ module _ {M : Type 1} (𝓤 : URA M) (H : Heap 𝓤) (A : Atoms 𝓤) (W : Given
   Post = walkOf 𝓤 H A self.ended stayed (self.clauses 𝓤 H A at-mem run) .post (((κ, tt), (q, tt), tt, x, at), tt)
 
   abbrev Said : Ruled → Type 0
-  Said r = r ≡ aborts h n1
+  Said r = r ≡ begins h n1
 
   -- of what the callee ensures, the clause alone
   ensured-of : (r : Ruled) → ent 𝓤 (ensured 𝓤 H A callee.ended (callee.clauses 𝓤 H A at-mem run) tt (h, (n1, tt)) tt r) (fact 𝓤 (Said r))
@@ -150,10 +150,10 @@ self-meets : {M : Type 1} (𝓤 : URA M) (H : Heap 𝓤) (A : Atoms 𝓤) → Gi
 self-meets 𝓤 H A W at-mem run 𝓣 known = walk-meets 𝓤 H A self.ended stayed W (goes 𝓤 H A W at-mem run) (self.clauses 𝓤 H A at-mem run) (WpFn 𝓤 H (𝓣 .C) (𝓣 .Λ) code.function) (WpFn-mono 𝓤 H (W .laws) 𝓣 code.function)
     (self-walks 𝓤 H A W at-mem run (𝓣 .C) (𝓣 .Λ) (fmOf 𝓤 H (W .laws) 𝓣) known)
 
-pub ventarico-clerk-abort-spec : {M : Type 1} → stated.statement M
+pub ventarico-clerk-begin-spec : {M : Type 1} → stated.statement M
 unfolding code.routine tablesOf
-ventarico-clerk-abort-spec 𝓤 H 𝓜 𝓖 𝓡 =
+ventarico-clerk-begin-spec 𝓤 H 𝓜 𝓖 𝓡 =
     entered 𝓤 H (tripleOf 𝓤 H (𝓖 .A) self.signature (self.spec 𝓤 H (𝓖 .A) (𝓜 .mem) (𝓡 .run)))
     (tables 𝓤 H 𝓜 𝓡 code.env .C) (tables 𝓤 H 𝓜 𝓡 code.env .Λ) #self code.function (code.unfolded 𝓤 H 𝓜 𝓡)
     (self-meets 𝓤 H (𝓖 .A) (givenOf 𝓤 H 𝓜 𝓖) (𝓜 .mem) (𝓡 .run) (tablesOf 𝓤 H 𝓜 (tables 𝓤 H 𝓜 𝓡 code.env))
-    (cited 𝓤 H (Callee 𝓤 H (𝓖 .A) (𝓜 .mem) (𝓡 .run)) 𝓜 𝓡 code.env #callee callee-def.routine code.calls-clerk·Clerk·abort (callee-thm.met 𝓤 H 𝓜 𝓖 𝓡)))
+    (cited 𝓤 H (Callee 𝓤 H (𝓖 .A) (𝓜 .mem) (𝓡 .run)) 𝓜 𝓡 code.env #callee callee-def.routine code.calls-clerk·Clerk·begin (callee-thm.met 𝓤 H 𝓜 𝓖 𝓡)))
