@@ -1,12 +1,16 @@
-/* Ventarico: a page store for flash with on-the-fly redo. The whole manual of the C interface.
+/* Ventarico: a page store for flash with on-the-fly redo. The whole manual of the C interface, for x86-64.
  *
  * The store keeps nothing of its own. Every call is lent the same seven areas of bytes; docs/LAYOUT.md says what
- * each byte means. Numbers are checked and tables are checked, by every call: whatever is passed, a call ends, does
- * nothing undefined, and answers one of the codes below. A call that answers a code other than 0 has changed no byte.
+ * each byte means. Numbers are checked and tables are checked, by every call (format looks at lengths alone, restart at
+ * the durable part and the lengths): whatever is passed, a call ends, does nothing undefined, and answers one of the
+ * codes below. A call that answers a code other than 0 has changed no byte.
  *
  * A caller has two duties, and no others:
  *   - each pointer is valid for its length (for writing too where it is not const; NULL with length 0 is fine);
  *   - no two of the areas, nor read's buffer, overlap.
+ *
+ * Who copies the durable areas to flash writes a page with its stamp whole or not at all, and likewise what a commit, a
+ * close and a format changed; a checkpoint's compactions reach the flash in page order, its close last.
  *
  * And there is one rule of life: AFTER A POWER LOSS CALL NOTHING BEFORE AN ACCEPTED ventarico_restart (or a new
  * format). Lost tables that happen to be zero look sound; a call on them misses committed updates, and a close or a
@@ -22,7 +26,7 @@
 extern "C" {
 #endif
 
-/* The answer's code. 2 to 10 are judged in this order. */
+/* The answer's code. The refusals are judged in this order. */
 enum {
     VENTARICO_DONE = 0,
     VENTARICO_NOT_SOUND = 1,     /* the lent tables are not sound: every call but format */
