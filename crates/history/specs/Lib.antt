@@ -1,0 +1,2 @@
+-- Chapters of the theory of a page's history, each on those before it.
+pub mod Bytes
