@@ -1,2 +1,3 @@
 -- Chapters of the theory of a page's history, each on those before it.
 pub mod Bytes
+pub mod Commute
