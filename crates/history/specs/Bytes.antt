@@ -2,7 +2,7 @@
 -- That changes which share no byte commute is read off from these two.
 use Prim.Native.Nat.{ℕ, zero, suc, _+_, _/_, _%_, _≤_, _<_}
 use native.Mathlib.Omega.{arith}
-use mathlib.Core.Path.{_≡_, refl, sym, ap, _∙_}
+use mathlib.Core.Path.{_≡_, refl, sym, _∙_}
 use mathlib.Core.Logic.{_⊎_, inl, inr}
 use mathlib.Core.Bool.{Bool, true, false, cond, _&&_}
 use mathlib.Core.List.{List}
@@ -12,7 +12,7 @@ use lib.Dec.{leb}
 use borrow.Author.Tests.{leb-true, leb-false}
 use Rattle.word.specs.Word.{num, put}
 use Rattle.record.specs.Record.{changed, change}
-use Rattle.apply.proofs.Laws.{length-change, room-both}
+use Rattle.apply.proofs.Laws.{room-both}
 use Rattle.compact.proofs.Kept.{getD-put-below, getD-put-above}
 
 -- a place is outside the n bytes from a on

@@ -1,13 +1,13 @@
 -- Changes that share no byte commute, at any lengths. Updates of two live owners share none, so neither sees which was made first.
 use Prim.Native.Nat.{ℕ, _+_, _≤_, _<_}
 use native.Mathlib.Omega.{arith}
-use mathlib.Core.Path.{_≡_, refl, sym, ap, _∙_}
+use mathlib.Core.Path.{_≡_, refl, sym, _∙_}
 use mathlib.Core.Logic.{_⊎_, inl, inr, ⊎-elim}
 use mathlib.Core.Bool.{Bool, true, false, _&&_}
 use mathlib.Core.List.{List}
-use lib.ListN.{length, getD}
+use lib.ListN.{getD}
 use lib.Seq.{ext-getD}
-use lib.Dec.{eqb, ltb, leb}
+use lib.Dec.{ltb, leb}
 use borrow.Author.Tests.{ltb-true, ltb-false, leb-true, leb-false, eq-eqb}
 use Rattle.record.specs.Record.{pageOf, offsetOf, lengthOf, kindOf, valueOf, change, apply, shareByte}
 use Rattle.apply.proofs.Laws.{length-change}

@@ -2,3 +2,4 @@
 pub mod Bytes
 pub mod Commute
 pub mod Order
+pub mod View
