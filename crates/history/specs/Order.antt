@@ -1,7 +1,6 @@
 -- Lists of records that differ by swaps of neighbours which are free of each other: the page does not see the difference.
 -- The order made becomes the order committed by such swaps, and `stable-partition` makes them in one go.
 use Prim.Native.Nat.{ℕ, _+_}
-use native.Mathlib.Omega.{arith}
 use mathlib.Core.Path.{_≡_, refl, sym, ap, _∙_, subst}
 use mathlib.Core.Bool.{Bool, true, false, cond, not, _&&_, _||_, and-comm}
 use mathlib.Core.List.{List, [], _∷_, _++_}
@@ -11,6 +10,7 @@ use Rattle.record.specs.Rows.{keep, consIf}
 use Rattle.record.specs.Record.{pageOf, offsetOf, lengthOf, apply, applied, onPage, shareByte}
 use Rattle.apply.proofs.Laws.{applied-keep}
 use Rattle.rules.specs.Sound.{every, pairs}
+use Rattle.onlinecheck.proofs.Rows.{and-both, every-imp}
 use Rattle.history.specs.Commute.{apply-commutes}
 
 -- two records that may be applied in either order: on different pages, or on one with no byte in common
@@ -45,7 +45,7 @@ pub free-sym : (a b : List ℕ) → free a b ≡ true → free b a ≡ true
 unfolding free
 free-sym a b h = sym (ap not (shareByte-sym a b)) ∙ h
 
--- the one law that says why: every other is on `free` alone
+-- the one law that says why: those below go by `free` alone
 pub free-commutes : (a b : List ℕ) → free a b ≡ true → pageOf a ≡ pageOf b → (g : List ℕ) → apply a (apply b g) ≡ apply b (apply a g)
 unfolding free
 free-commutes a b h e g = apply-commutes a b (not-true (shareByte a b) h) e g
@@ -118,15 +118,11 @@ pub ≈-page : (p : ℕ) {l m : List (List ℕ)} → l ≈ m → (g : List ℕ) 
 ≈-page p e g = ≈-picked p (onPage p) (λ r h. eqb-true (pageOf r) p h) e g
 
 -- a record moves past those that it is free of
-and-split : (a b : Bool) → (a && b) ≡ true → (a ≡ true) × (b ≡ true)
-and-split true b h = (refl, h)
-and-split false b h = let z : _≡_ {A = ℕ} 0 1 = cc in absurd (omega arith)
-
 pub ≈-move : (x : List ℕ) (k m : List (List ℕ)) → every (free x) k ≡ true → x ∷ k ++ m ≈ k ++ x ∷ m
 unfolding every
 ≈-move x [] m h = as-is
 ≈-move x (y ∷ k) m h =
-    let e : (free x y ≡ true) × (every (free x) k ≡ true) = and-split (free x y) (every (free x) k) h in
+    let e : (free x y ≡ true) × (every (free x) k ≡ true) = and-both (free x y) (every (free x) k) h in
     both (swap x y (k ++ m) (e .0)) (behind y (≈-move x k m (e .1)))
 
 -- x before y: where those that pass b are put first, the two keep their order, or are free of each other
@@ -137,7 +133,7 @@ every-kept : (b : List ℕ → Bool) (x : List ℕ) (l : List (List ℕ)) → b 
 unfolding every keep
 every-kept b x [] e h = refl
 every-kept b x (y ∷ l) e h =
-    let s : (parts b x y ≡ true) × (every (parts b x) l ≡ true) = and-split (parts b x y) (every (parts b x) l) h in
+    let s : (parts b x y ≡ true) × (every (parts b x) l ≡ true) = and-both (parts b x y) (every (parts b x) l) h in
     pick (b y) (ap (λ (q : Bool). q || not (b y) || free x y) (sym e) ∙ s .0) (every-kept b x l e (s .1))
   where
     pick : (t : Bool) → (false || not t || free x y) ≡ true → every (free x) (keep b l) ≡ true → every (free x) (consIf t y (keep b l)) ≡ true
@@ -149,7 +145,7 @@ pub stable-partition : (b : List ℕ → Bool) (l : List (List ℕ)) → pairs (
 unfolding pairs keep
 stable-partition b [] h = as-is
 stable-partition b (x ∷ l) h =
-    let s : (every (parts b x) l ≡ true) × (pairs (parts b) l ≡ true) = and-split (every (parts b x) l) (pairs (parts b) l) h in
+    let s : (every (parts b x) l ≡ true) × (pairs (parts b) l ≡ true) = and-both (every (parts b x) l) (pairs (parts b) l) h in
     pick (b x) refl (s .0) (behind x (stable-partition b l (s .1)))
   where
     rest : List (List ℕ)
@@ -158,3 +154,11 @@ stable-partition b (x ∷ l) h =
     pick : (t : Bool) → b x ≡ t → every (parts b x) l ≡ true → x ∷ l ≈ x ∷ keep b l ++ rest → x ∷ l ≈ consIf t x (keep b l) ++ consIf (not t) x rest
     pick true e f i = i
     pick false e f i = both i (≈-move x (keep b l) rest (every-kept b x l e f))
+
+-- a test of each two implies another
+pub pairs-imp : (b d : List ℕ → List ℕ → Bool) → ((x y : List ℕ) → b x y ≡ true → d x y ≡ true) → (l : List (List ℕ)) → pairs b l ≡ true → pairs d l ≡ true
+unfolding pairs
+pairs-imp b d f [] h = refl
+pairs-imp b d f (x ∷ l) h =
+    let e : (every (b x) l ≡ true) × (pairs b l ≡ true) = and-both (every (b x) l) (pairs b l) h in
+    rw (every-imp (b x) (d x) (f x) l (e .0)) (pairs-imp b d f l (e .1))

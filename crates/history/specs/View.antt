@@ -10,8 +10,9 @@ use lib.ListN.{length, getD, take, set, replicate, List·getD-append}
 use lib.Seq.{getD-set-other, getD-take, length-take-le}
 use Rattle.word.specs.Word.{num}
 use Rattle.record.specs.Rows.{keep, consIf}
-use Rattle.record.specs.Record.{pageOf, offsetOf, lengthOf, kindOf, valueOf, ownedBy, bodyOf, onPage, change, apply, applied, numbered, entered, numberRows}
+use Rattle.record.specs.Record.{pageOf, offsetOf, lengthOf, kindOf, valueOf, ownedBy, bodyOf, onPage, change, apply, applied, numbered, entered, numberRows, shareByte}
 use Rattle.history.specs.Bytes.{Agree, num-agree, put-outside}
+use Rattle.history.specs.Order.{free}
 
 -- one list of records after another
 pub applied-append : (l m : List (List ℕ)) (g : List ℕ) → applied (l ++ m) g ≡ applied m (applied l g)
@@ -43,13 +44,31 @@ module _ (r s : List ℕ) (e : SameBody r s) where
   pub body-page : pageOf r ≡ pageOf s
   body-page = field 2 0 (omega arith)
 
+  pub body-offset : offsetOf r ≡ offsetOf s
+  body-offset = field 2 2 (omega arith)
+
+  pub body-length : lengthOf r ≡ lengthOf s
+  body-length = byte 4 (omega arith)
+
   pub body-apply : (g : List ℕ) → apply r g ≡ apply s g
   unfolding apply
   body-apply g =
-      ap (λ (x : ℕ). change x (lengthOf r) (kindOf r) (valueOf r) g) (field 2 2 (omega arith))
-      ∙ ap (λ (x : ℕ). change (offsetOf s) x (kindOf r) (valueOf r) g) (byte 4 (omega arith))
+      ap (λ (x : ℕ). change x (lengthOf r) (kindOf r) (valueOf r) g) body-offset
+      ∙ ap (λ (x : ℕ). change (offsetOf s) x (kindOf r) (valueOf r) g) body-length
       ∙ ap (λ (x : ℕ). change (offsetOf s) (lengthOf s) x (valueOf r) g) (byte 5 (omega arith))
       ∙ ap (λ (x : ℕ). change (offsetOf s) (lengthOf s) (kindOf s) x g) (field 8 6 (omega arith))
+
+-- whether two rows are free of each other is said by their bodies too
+pub body-free : (a b c d : List ℕ) → SameBody a c → SameBody b d → free a b ≡ free c d
+unfolding free shareByte
+body-free a b c d e f =
+    let p : pageOf a ≡ pageOf c = body-page a c e in
+    let q : pageOf b ≡ pageOf d = body-page b d f in
+    let o : offsetOf a ≡ offsetOf c = body-offset a c e in
+    let u : offsetOf b ≡ offsetOf d = body-offset b d f in
+    let w : lengthOf a ≡ lengthOf c = body-length a c e in
+    let x : lengthOf b ≡ lengthOf d = body-length b d f in
+    rw (p, q, o, u, w, x)
 
 -- a row that is committed under a number, and one that is entered from the log
 pub numbered-body : (r : List ℕ) (k : ℕ) → SameBody (numbered r k) r
