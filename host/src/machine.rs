@@ -249,17 +249,8 @@ impl<S: Store + Clone> Machine<S> {
     }
 
     fn lose(&mut self, fill: Fill, coverage: &mut Coverage) {
-        for areas in [&mut self.areas, &mut self.right] {
-            let lost = [&mut areas.tables, &mut areas.online, &mut areas.pool];
-            match fill {
-                Fill::Old => (),
-                Fill::Zeros => lost.into_iter().for_each(|area| area.fill(0)),
-                Fill::Garbage(seed) => {
-                    let mut random = Random::new(seed);
-                    lost.into_iter().for_each(|area| random.fill(area));
-                }
-            }
-        }
+        lose(&mut self.areas, fill);
+        lose(&mut self.right, fill);
         if self.power == Power::Up {
             self.power = Power::Lost;
         }
@@ -269,6 +260,19 @@ impl<S: Store + Clone> Machine<S> {
                 Fill::Old => "loss: old bytes",
                 Fill::Garbage(_) => "loss: garbage",
             });
+        }
+    }
+}
+
+/// What a power loss does to the areas: the durable part stays, the rest holds anything.
+pub fn lose(areas: &mut Areas, fill: Fill) {
+    let lost = [&mut areas.tables, &mut areas.online, &mut areas.pool];
+    match fill {
+        Fill::Old => (),
+        Fill::Zeros => lost.into_iter().for_each(|area| area.fill(0)),
+        Fill::Garbage(seed) => {
+            let mut random = Random::new(seed);
+            lost.into_iter().for_each(|area| random.fill(area));
         }
     }
 }
@@ -285,8 +289,8 @@ pub fn replay<S: Store + Clone>(store: &S, judges: Judges, steps: &[Step]) -> Op
     None
 }
 
-/// Cuts a failing session down: drops steps, many at a time and then one by one, as long as it still fails.
-pub fn shrink<S: Store + Clone>(store: &S, judges: Judges, mut steps: Vec<Step>, patience: Duration) -> Vec<Step> {
+/// Drops steps, many at a time and then one by one, as long as `failing` still names a step that fails.
+pub fn cut_down<T: Clone>(mut steps: Vec<T>, patience: Duration, failing: impl Fn(&[T]) -> Option<usize>) -> Vec<T> {
     let started = Instant::now();
     let mut chunk = steps.len().max(1);
     loop {
@@ -295,8 +299,8 @@ pub fn shrink<S: Store + Clone>(store: &S, judges: Judges, mut steps: Vec<Step>,
         while at < steps.len() && started.elapsed() < patience {
             let mut shorter = steps.clone();
             shorter.drain(at..(at + chunk).min(shorter.len()));
-            match replay(store, judges, &shorter) {
-                Some((failing, _)) => {
+            match failing(&shorter) {
+                Some(failing) => {
                     shorter.truncate(failing + 1);
                     steps = shorter;
                 }
@@ -304,10 +308,15 @@ pub fn shrink<S: Store + Clone>(store: &S, judges: Judges, mut steps: Vec<Step>,
             }
         }
         if started.elapsed() >= patience || (chunk == 1 && steps.len() == before) {
-            break;
+            return steps;
         }
         chunk = (chunk / 2).max(1);
     }
+}
+
+/// Cuts a failing session down to its shortest form.
+pub fn shrink<S: Store + Clone>(store: &S, judges: Judges, steps: Vec<Step>, patience: Duration) -> Vec<Step> {
+    let mut steps = cut_down(steps, patience, |steps| replay(store, judges, steps).map(|(failing, _)| failing));
     // Zeros are easier to write down than garbage.
     for i in 0..steps.len() {
         let mut plainer = steps.clone();

@@ -12,6 +12,7 @@ mod coverage;
 mod damage;
 mod history;
 mod machine;
+mod pair;
 mod progress;
 mod random;
 mod record;
@@ -28,26 +29,32 @@ use session::Profile;
 use sound::Clause;
 use std::process::ExitCode;
 use std::time::Duration;
+use twin::Twin;
 use wrong::{Fault, Wrong};
 
 #[cfg(archive)]
 use archive::Archive as Tested;
 #[cfg(not(archive))]
-use twin::Twin as Tested;
+use Twin as Tested;
 
 const LINKED: bool = cfg!(archive);
 
 /// Calls in a gate run.
 const CALLS: u64 = 1_000_000;
 
+/// Of these, so many to one are transaction calls of pairs.
+const PAIRS_PART: u64 = 10;
+
 fn usage() -> ExitCode {
     eprintln!(
         "usage: ventarico-host cases                    the named cases of document 01\n\
          \x20      ventarico-host sessions [calls] [seed]  random sessions (default {CALLS} calls, a new seed)\n\
          \x20      ventarico-host damage [seed]            stores that are not sound\n\
+         \x20      ventarico-host pairs [calls] [seed]     pairs of stores with the same transactions (default {})\n\
          \x20      ventarico-host wrong [seed]             wrong stores, each of which must be caught\n\
          \x20      ventarico-host coverage [calls] [seed]  sessions and damage, then what they have shown\n\
-         \x20      ventarico-host all [calls] [seed]       all of these"
+         \x20      ventarico-host all [calls] [seed]       all of these",
+        CALLS / PAIRS_PART
     );
     ExitCode::from(2)
 }
@@ -71,6 +78,8 @@ fn main() -> ExitCode {
     let (passed, failed) = match (words.first().map(String::as_str), numbers.len()) {
         (Some("cases"), 0) => cases(),
         (Some("sessions"), 0..=2) => sessions(calls, seed, &mut coverage),
+        (Some("pairs"), 0) => pairs(CALLS / PAIRS_PART, seed),
+        (Some("pairs"), 1..=2) => pairs(calls, seed),
         (Some("damage"), 0..=1) => damage(only_seed, &mut coverage),
         (Some("wrong"), 0..=1) => wrong(only_seed),
         (Some("coverage"), 0..=2) => {
@@ -82,6 +91,7 @@ fn main() -> ExitCode {
                 cases(),
                 sessions(calls, seed, &mut coverage),
                 damage(seed, &mut coverage),
+                pairs(calls / PAIRS_PART, seed),
                 wrong(seed),
                 covered(&coverage),
             ];
@@ -143,6 +153,59 @@ fn sessions(calls: u64, seed: u64, coverage: &mut Coverage) -> (u64, u64) {
     println!("  seeds {seed} to {}", seed.wrapping_add(passed).wrapping_sub(1));
     println!("  {made} calls in {passed} sessions, {seconds:.1} s, {:.0} calls a second", made as f64 / seconds);
     (passed, 0)
+}
+
+/// Random pairs of stores, seed after seed, until the transaction calls are made or one fails. Then wrong stores, each
+/// beside the second program, which the pairs must catch.
+fn pairs(calls: u64, seed: u64) -> (u64, u64) {
+    println!("\npairs: {calls} transaction calls, first seed {seed}");
+    // The linked store beside itself, beside the second program on either side; and that one beside itself.
+    let stores = |seed: u64| -> pair::Stores {
+        match seed % 4 {
+            0 => [Box::new(Twin), Box::new(Twin)],
+            1 => [Box::new(Tested {}), Box::new(Twin)],
+            2 => [Box::new(Twin), Box::new(Tested {})],
+            _ => [Box::new(Tested {}), Box::new(Tested {})],
+        }
+    };
+    let mut progress = Progress::new("pairs");
+    let mut sum = pair::Ran::default();
+    while sum.calls < calls {
+        let this = seed.wrapping_add(sum.pairs);
+        sum.add(pair::run(stores(this), this));
+        if let Some((steps, why)) = sum.failure {
+            println!("  FAILED  pair of seed {this}, after {} steps: {why}", steps.len());
+            pair::print_failing(|| stores(this), this, steps);
+            println!("  next: write these calls down as a case, mend, then run `pairs 1 {this}` and the gate again");
+            return (sum.pairs - 1, 1);
+        }
+        progress.tell(|| format!("{} of {calls} calls, {} pairs, seed {this} done", sum.calls, sum.pairs));
+    }
+    println!("  seeds {seed} to {}", seed.wrapping_add(sum.pairs).wrapping_sub(1));
+    println!(
+        "  {} transaction calls compared in {} pairs, {} of them up to a full table or log; {} losses on both, \
+         {} calls of one side's own, {:.1} s",
+        sum.calls,
+        sum.pairs,
+        sum.full,
+        sum.losses,
+        sum.own,
+        progress.seconds()
+    );
+    println!("  wrong stores beside the second program, after how many transaction calls they are caught:");
+    let (mut passed, mut failed) = (sum.pairs, 0);
+    for (fault, said) in Fault::ALL.iter().filter(|(fault, _)| pair::MUST_CATCH.contains(fault)) {
+        let caught = pair::caught(*fault, seed, 100_000);
+        let after = caught.map_or("-".to_string(), |calls| calls.to_string());
+        println!("  {}{after:>8}  {}", if caught.is_some() { "ok    " } else { "FAILED" }, said.trim());
+        if caught.is_some() {
+            passed += 1
+        } else {
+            failed += 1
+        }
+        progress.tell(|| said.trim().to_string());
+    }
+    (passed, failed)
 }
 
 fn damage(seed: u64, coverage: &mut Coverage) -> (u64, u64) {

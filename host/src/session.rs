@@ -236,8 +236,11 @@ fn come_back<S: Store + Clone>(
     Ok(machine.calls)
 }
 
+const OWN_FROM: u32 = 790;
+const RESTART_FROM: u32 = 970;
+
 /// Makes the steps. It looks at the tables, so that most calls are about something.
-struct Maker {
+pub struct Maker {
     random: Random,
     profile: Profile,
     /// Steps that must come next.
@@ -245,6 +248,34 @@ struct Maker {
 }
 
 impl Maker {
+    /// A maker for a pair of stores (pair.rs), which is asked for single calls.
+    pub fn for_pair(seed: u64, sizes: Sizes, last: u32) -> Maker {
+        let mut random = Random::new(seed);
+        let (numbers, sitters) = (random.between(2, 6), random.between(0, 2));
+        let (filling, losing, wild) = (false, false, false);
+        let profile = Profile { name: "pair", sizes, last, length: 0, numbers, sitters, filling, losing, wild };
+        Maker { random, plan: VecDeque::new(), profile }
+    }
+
+    /// A call of a transaction: one that follows from the last, or a new one, sometimes out of its range.
+    pub fn transaction(&mut self, a: &Areas) -> Call {
+        if let Some(Step::Call(call)) = self.plan.pop_front() {
+            return call;
+        }
+        let nobody_live = !(1..=32).any(|number| a.is_live(number));
+        let roll = if nobody_live && self.random.percent(60) { 0 } else { self.random.below(OWN_FROM) };
+        let call = self.rolled(a, roll);
+        let call = if self.random.percent(4) { self.spoil(a, call) } else { call };
+        self.follow(a, &Step::Call(call));
+        call
+    }
+
+    /// A call that is the store's own affair: evict, compact, close or checkpoint.
+    pub fn own(&mut self, a: &Areas) -> Call {
+        let roll = self.random.between(OWN_FROM, RESTART_FROM - 1);
+        self.rolled(a, roll)
+    }
+
     fn lend_and_format(&mut self, sizes: Sizes, last: u32) {
         let seed = self.random.next();
         let fill = if self.random.percent(50) { Fill::Zeros } else { Fill::Garbage(seed) };
@@ -307,7 +338,8 @@ impl Maker {
         }
     }
 
-    fn loss(&mut self, a: &Areas) -> Step {
+    /// A power loss, or a restart without one.
+    pub fn loss(&mut self, a: &Areas) -> Step {
         let all = fills(&mut self.random);
         let fill = self.random.pick(&all);
         match self.random.below(3) {
@@ -339,20 +371,25 @@ impl Maker {
                 _ => Call::Compact { page: self.page_to_fold(a), min_del: 1, max_age: 0 },
             };
         }
+        self.rolled(a, roll)
+    }
+
+    /// Calls of transactions first, from OWN_FROM the store's own, from RESTART_FROM what starts anew.
+    fn rolled(&mut self, a: &Areas, roll: u32) -> Call {
         match roll {
             0..=119 => Call::Begin { number: self.number() },
             120..=339 => self.read(a),
             340..=639 => self.update(a),
             640..=739 => Call::Commit { number: self.ending(a) },
             740..=789 => Call::Abort { number: self.ending(a) },
-            790..=849 => Call::Evict { page: self.page(a) },
+            OWN_FROM..=849 => Call::Evict { page: self.page(a) },
             850..=919 => {
                 let (min_del, max_age) = self.due();
                 Call::Compact { page: self.page_to_fold(a), min_del, max_age }
             }
             920..=944 => Call::Close,
             945..=969 => self.checkpoint(),
-            970..=994 => Call::Restart,
+            RESTART_FROM..=994 => Call::Restart,
             _ => self.format(),
         }
     }
