@@ -26,8 +26,8 @@ pub enum Step {
     Both(Call),
     /// A call that this side likes to make: evict, compact, close, checkpoint.
     Own(usize, Call),
-    /// Both lose power, between two calls or inside a checkpoint of their own, or come off with the restart that
-    /// follows on both.
+    /// Both lose power, each between two calls or inside a checkpoint of its own; a restart follows on both. A side
+    /// whose step here is the restart itself has lost nothing: a loss that leaves the old bytes.
     Loss([machine::Step; 2]),
 }
 
@@ -36,7 +36,13 @@ impl fmt::Display for Step {
         match self {
             Step::Both(call) => write!(f, "both: {call}"),
             Step::Own(side, call) => write!(f, "{}: {call}", SIDES[*side]),
-            Step::Loss([one, two]) => write!(f, "one: {one}, two: {two}, both: restart"),
+            Step::Loss(losses) => {
+                let [one, two] = losses.each_ref().map(|loss| match loss {
+                    machine::Step::Call(_) => "(nothing is lost)".to_string(),
+                    loss => loss.to_string(),
+                });
+                write!(f, "one: {one}, two: {two}, both: restart")
+            }
         }
     }
 }
