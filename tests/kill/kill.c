@@ -3,9 +3,9 @@
  * In each round a child opens the store and does random transactions, up to four open at once. Over a pipe it says what
  * it is about to commit, and again when the commit came back. It dies in one of two ways:
  *   - killed: the parent sends SIGKILL at a random moment;
- *   - power: at a random write, sync or truncation the child writes a part of what was asked, takes back by chance any
- *     of the writes that no sync has covered yet, as a disk may do, and kills itself. (These calls are wrapped by the
- *     linker; the host's code is as it is in examples/.)
+ *   - power: at a random write, sync or truncation the child does a part of what was asked, takes back by chance all or
+ *     some of what no sync has covered yet, as a disk may do, and kills itself. (These calls are wrapped by the linker;
+ *     the host's code is as it is in examples/.)
  * In half of the rounds up to three more children die the same way while they open the file, in the midst of mending it.
  * Then the parent opens the file and compares every byte of every page with a model, which is given the commits that
  * were reported done: the store must be the model, or the model and the one commit that was in flight, as a whole.
@@ -51,8 +51,9 @@ int __wrap_ftruncate(int file, off_t length);
 ssize_t __wrap_pwrite(int file, const void *bytes, size_t length, off_t at);
 
 static unsigned long left; /* wrapped calls until the power goes; 0: never */
+static bool real_syncs;    /* where the power is played, syncs are too: so the test is quick */
 
-/* The whole file as it was before a change that is not synced. */
+/* The file as it was before a change that is not synced. */
 struct change {
     int file;
     size_t at, length, old_length; /* length 0: a truncation */
@@ -72,7 +73,7 @@ static void remember(int file, size_t at, size_t length)
     if (left == 0 || changed == sizeof changes / sizeof *changes)
         return;
     struct change c = {file, at, length, length_of(file), NULL};
-    c.old = calloc(1, c.old_length + 1);
+    c.old = calloc(1, (at + length > c.old_length ? at + length : c.old_length) + 1);
     if (!c.old || pread(file, c.old, c.old_length, 0) != (ssize_t)c.old_length)
         abort();
     changes[changed++] = c;
@@ -89,9 +90,16 @@ static void forget(int file)
     changed = kept;
 }
 
-/* Takes back a change: a write's bytes; or what a truncation cut off (past what was written since, or all of it). */
+/* Takes back a change: a write's bytes, all or a run of them; or what a truncation cut off, all or what lies past the
+ * bytes that were written since. */
 static void take_back(const struct change *c)
 {
+    if (c->length > 0 && chance(2)) {
+        size_t skip = chance(c->length);
+        if (__real_pwrite(c->file, c->old + c->at + skip, 1 + chance(c->length - skip), (off_t)(c->at + skip)) < 0)
+            abort();
+        return;
+    }
     size_t now = length_of(c->file), from = c->length > 0 ? c->at : chance(2) ? now : 0;
     size_t to = c->length > 0 && c->at + c->length < c->old_length ? c->at + c->length : c->old_length;
     if (from < to && __real_pwrite(c->file, c->old + from, to - from, (off_t)from) < 0)
@@ -109,6 +117,20 @@ static void power_goes(void)
     kill(getpid(), SIGKILL);
 }
 
+/* The front of the bytes; or a run here and there, and the file as long as it was to be. */
+static void write_some(int file, const uint8_t *bytes, size_t length, off_t at)
+{
+    enum { RUN = 32 };
+    bool front = chance(2);
+    if (front && __real_pwrite(file, bytes, chance(length + 1), at) < 0)
+        abort();
+    for (size_t i = 0; !front && i < length; i += RUN)
+        if (chance(2) && __real_pwrite(file, bytes + i, length - i < RUN ? length - i : RUN, at + (off_t)i) < 0)
+            abort();
+    if (!front && length_of(file) < (size_t)at + length && __real_ftruncate(file, at + (off_t)length) != 0)
+        abort();
+}
+
 static bool last_call(void)
 {
     return left > 0 && --left == 0;
@@ -118,8 +140,7 @@ ssize_t __wrap_pwrite(int file, const void *bytes, size_t length, off_t at)
 {
     remember(file, (size_t)at, length);
     if (last_call()) {
-        if (__real_pwrite(file, bytes, chance(length + 1), at) < 0)
-            abort();
+        write_some(file, bytes, length, at);
         power_goes();
     }
     return __real_pwrite(file, bytes, length, at);
@@ -138,7 +159,7 @@ int __wrap_fsync(int file)
     if (last_call())
         power_goes();
     forget(file);
-    return __real_fsync(file);
+    return real_syncs ? __real_fsync(file) : 0;
 }
 
 /* ---- The child. */
@@ -320,6 +341,7 @@ static pid_t start_child(int pipe[2], unsigned long calls, bool only_open)
         close(pipe[0]);
     state = seed * UINT64_C(0x9e3779b97f4a7c15) | 1;
     left = calls;
+    real_syncs = calls == 0;
     if (!only_open)
         child(pipe[1]);
     struct filestore f;
@@ -342,7 +364,7 @@ static bool read_store(void)
 static bool round_holds(unsigned long number)
 {
     int pipes[2];
-    bool fresh = number % 10 == 0, power = chance(3) > 0;
+    bool fresh = number % 10 == 0, power = chance(8) > 0;
     if (fresh) {
         unlink(path);
         unlink(beside);
@@ -405,7 +427,7 @@ int main(int count, char **words)
         return 2;
     }
     uint64_t seed = count > 2 ? strtoull(words[2], NULL, 0) : (uint64_t)time(NULL) << 16 ^ (uint64_t)getpid();
-    unsigned long rounds = count > 3 ? strtoul(words[3], NULL, 0) : 100, passed = 0;
+    unsigned long rounds = count > 3 ? strtoul(words[3], NULL, 0) : 600, passed = 0;
     snprintf(path, sizeof path, "%s/store", words[1]);
     snprintf(beside, sizeof beside, "%s.journal", path);
     state = seed * UINT64_C(0x9e3779b97f4a7c15) | 1;
