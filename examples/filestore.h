@@ -27,7 +27,8 @@
 #include "ventarico.h"
 
 /* The host's own answer, beside the store's codes: the file could not be written, so memory and file may differ. Every
- * later call answers it too. What to do is what one does after a power loss: filestore_drop, then filestore_open. */
+ * later call answers it too. What to do is what one does after a power loss: filestore_drop, then filestore_open. All
+ * that was accepted before is then there; what this call was to save is there whole or not at all: read, and see. */
 enum { FILESTORE_BROKEN = 100 };
 
 struct filestore_sizes {
