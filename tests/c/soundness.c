@@ -187,6 +187,32 @@ static void entries_name_a_frame_or_none(const struct store *sound)
     LOST("S4: dirty, in a frame past the last", want_entry(s, 3, DIRTY(6)));
     LOST("S4: 254", want_entry(s, 0, 254));
     LOST("S4: 255", want_entry(s, 3, 255));
+    LOST("S4, S6: in a frame past the last, which the use order names", want_entry(s, 0, CLEAN(6));
+         WANT_ORDER(s, 5, 3, 0, 1, 6));
+}
+
+/* A store with the most frames and the most pages: what is past them is past any table on the side too. */
+static void nothing_is_past_64_frames_and_1024_pages(void)
+{
+    struct store widest = store_of((struct sizes){512, 1024, 64, 4, 8}), *sound = &widest;
+    want_fresh(&widest, widest.sizes, 0);
+    WANT_ONLINE(&widest, owned(1, set(1023, 0, 1, 1)), owned(1, set(1023, 1, 1, 1)));
+    want_entry(&widest, 1023, (uint8_t)DIRTY(63));
+    WANT_ORDER(&widest, 63);
+    want_live(&widest, 1, 1);
+    settle(&widest);
+    SOUND("the last frame and the last page", (void)s);
+#define UNSOUND(label, ...) CHANGED(all_but_restart_and_format_refuse, label, __VA_ARGS__)
+    UNSOUND("S4: in frame 64 of 64", want_entry(s, 0, (uint8_t)CLEAN(64)));
+    UNSOUND("S4: 255 with 64 frames", want_entry(s, 1023, 255));
+    UNSOUND("S6: frame 64 of 64 named", WANT_ORDER(s, 63, 64));
+    UNSOUND("S6: frame 255 named, of 64", WANT_ORDER(s, 63, 255));
+    UNSOUND("S4, S6: in frame 64 of 64, which the use order names", want_entry(s, 0, (uint8_t)CLEAN(64));
+            WANT_ORDER(s, 63, 64));
+    UNSOUND("S7: page 1,024 of 1,024", want_row(s, 1, owned(1, set(1024, 1, 1, 1))));
+    UNSOUND("S7: page 65,535, of 1,024", want_row(s, 1, owned(1, set(65535, 1, 1, 1))));
+#undef UNSOUND
+    store_free(&widest);
 }
 
 static void no_frame_serves_two_pages(const struct store *sound)
@@ -322,6 +348,7 @@ static void owners_share_no_byte(const struct store *sound)
     LOST("S13: page 6", want_row(s, 4, owned(2, add(6, 3, 2, 9))));
     SOUND("side by side on page 6", want_row(s, 4, owned(2, add(6, 4, 2, 9))));
     SOUND("after the other", want_row(s, 1, owned(1, set(4, 19, 1, 7))));
+    SOUND("the same bytes of page 6", want_rows_and(s, owned(32, set(6, 16, 4, 7))));
     SOUND("one owner's own", want_row(s, 4, owned(1, add(4, 16, 2, 9))));
     SOUND("with a committed record", want_row(s, 4, owned(2, add(4, 32, 2, 9))));
 }
@@ -407,6 +434,7 @@ void soundness(void)
     lengths_exact(&sample);
     counts_within_sizes(&sample);
     entries_name_a_frame_or_none(&sample);
+    nothing_is_past_64_frames_and_1024_pages();
     no_frame_serves_two_pages(&sample);
     the_use_order_names_each_frame_in_use_once(&sample);
     online_records_are_well_formed(&sample);
