@@ -1,26 +1,8 @@
-/* The clerk's functions by reference, where the archive has them: tests/c/run defines VENTARICO_CLERK then. */
-#include "store.h"
-#include "topics.h"
-
-#ifndef VENTARICO_CLERK
-
-void clerk(void)
-{
-}
-
-#else
-
+/* The clerk's functions, over a struct that the caller lends. */
 #include <string.h>
 
-/* Number t, 1 to 32, is live where slot t - 1 is 1. */
-struct ventarico_clerk {
-    uint8_t live[32];
-    uint32_t last;
-};
-
-uint8_t ventarico_clerk_begin(struct ventarico_clerk *clerk, uint32_t number);
-uint8_t ventarico_clerk_abort(struct ventarico_clerk *clerk, uint32_t number);
-uint8_t ventarico_clerk_commit(struct ventarico_clerk *clerk, uint32_t number, uint32_t records);
+#include "store.h"
+#include "topics.h"
 
 /* A clerk between guards, and what it should be. */
 struct desk {
@@ -122,4 +104,3 @@ void clerk(void)
     the_last_number_is_given_and_no_more();
 }
 
-#endif

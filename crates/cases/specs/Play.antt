@@ -13,7 +13,7 @@ use Rattle.rules.specs.Sound.{every, pairs, upTo, zeros, isPageSize, inRange, e
 use Rattle.rules.specs.Steps.{begun, placed, rebuilt, fetchedEntries, fetchedPool, readTables, readStep, readBytes, updateTables, updated, committing, framesFreed, judgedAnew, aborted, evicted, due, fromFrame, compactedPage, compactedEntry, compactedOrder, compacted, compactStep, lowered, droppedBy, closed, afterPages, checkpointed, entering, evictedAll, restarted, stamped, formatted}
 use Rattle.rules.specs.Calls.{Outcome, refuseIf, mayBegin, judgeBegin, beginCall, clashes, mayRead, judgeRead, readCall, mayUpdate, judgeUpdate, updateCall, mayCommit, judgeCommit, commitCall, mayAbort, judgeAbort, abortCall, mayEvict, judgeEvict, evictCall, mayCompact, judgeCompact, compactCall, judgeClose, closeCall, mayCheckpoint, judgeCheckpoint, checkpointCall, judgeRestart, restartCall, judgeFormat, formatCall}
 
--- a call, a power loss, or a look at something of the store
+-- a call, a power loss, or a look at something of the store. A read is lent a buffer of sevens, one longer than it asks for
 pub data Event : Type 0 where
   Begin Commit Abort Evict : ℕ → Event
   Read : ℕ → ℕ → ℕ → ℕ → Event
@@ -23,7 +23,7 @@ pub data Event : Type 0 where
   Close Restart Loss : Event
   Format : ℕ → ℕ → ℕ → ℕ → ℕ → ℕ → Event
   Stored : ℕ → ℕ → Event
-  Last Closed Logged Online Order : Event
+  Last Closed Logged Online Order Tables Rows : Event
   Stamp Dirty Entry : ℕ → Event
 
 -- code, note, page reads, page writes, log writes
@@ -51,7 +51,7 @@ step s (Begin x) = after (beginCall s x)
 step s (Commit x) = after (commitCall s x)
 step s (Abort x) = after (abortCall s x)
 step s (Evict p) = after (evictCall s p)
-step s (Read x p o w) = after (readCall s (replicate w 0) x p o w)
+step s (Read x p o w) = after (readCall s (replicate (w + 1) 7) x p o w)
 step s (Update x p o w k v) = after (updateCall s x p o w k v)
 step s (Compact p a b) = after (compactCall s p a b)
 step s (Checkpoint a b) = after (checkpointCall s a b)
@@ -65,6 +65,8 @@ step s Closed = looked s (closedOf s ∷ [])
 step s Logged = looked s (firstOf s ∷ loggedOf s ∷ [])
 step s Online = looked s (map numberOf (onlineOf s))
 step s Order = looked s (orderOf s)
+step s Tables = looked s (s .lost .tables)
+step s Rows = looked s (s .lost .online)
 step s (Stamp p) = looked s (stampOf s p ∷ [])
 step s (Dirty p) = looked s (dirtyOf s p ∷ [])
 step s (Entry p) = looked s (entryOf s p ∷ [])

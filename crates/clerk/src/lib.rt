@@ -1,5 +1,5 @@
 // The clerk: which transaction numbers are live, and the last log number. Its state is a small struct that goes in by
-// value and comes back in a ruling; `by_reference` has the thin functions that update a lent one in place.
+// value and comes back in a ruling.
 ghost use mathlib.Core.Path.{_≡_};
 ghost use Rattle.clerk.specs.Rule.{begins, aborts, commits};
 
@@ -113,33 +113,4 @@ impl Clerk {
             clerk: self,
         }
     }
-}
-
-// The same, on a clerk that the caller lends: 0, or the refusal's number with the clerk as it was.
-
-#[no_mangle]
-pub extern "C" fn ventarico_clerk_begin(c: &mut Clerk, x: u32) -> u8
-    ensures { λ r. ⌜ (r ≡ begins (now (c .entry)) x .code) × (now (c .exit) ≡ begins (now (c .entry)) x .clerk) ⌝ }
-{
-    let b = (*c).begin(x);
-    *c = b.clerk;
-    b.code
-}
-
-#[no_mangle]
-pub extern "C" fn ventarico_clerk_abort(c: &mut Clerk, x: u32) -> u8
-    ensures { λ r. ⌜ (r ≡ aborts (now (c .entry)) x .code) × (now (c .exit) ≡ aborts (now (c .entry)) x .clerk) ⌝ }
-{
-    let b = (*c).abort(x);
-    *c = b.clerk;
-    b.code
-}
-
-#[no_mangle]
-pub extern "C" fn ventarico_clerk_commit(c: &mut Clerk, x: u32, k: u32) -> u8
-    ensures { λ r. ⌜ (r ≡ commits (now (c .entry)) x k .code) × (now (c .exit) ≡ commits (now (c .entry)) x k .clerk) ⌝ }
-{
-    let b = (*c).commit(x, k);
-    *c = b.clerk;
-    b.code
 }

@@ -1,16 +1,15 @@
 -- Laws of copies, of entries that are freed, and of the use order in the tables.
-use Prim.Native.Nat.{ℕ, zero, suc, _+_, _*_, _-_, _/_, _%_, _≤_, _<_}
+use Prim.Native.Nat.{ℕ, suc, _+_, _*_, _-_, _/_, _%_, _≤_, _<_}
 use native.Mathlib.Omega.{arith}
 use native.Mathlib.Numerals.{add-one}
-use mathlib.Core.Path.{_≡_, refl, sym, ap, _∙_}
+use mathlib.Core.Path.{_≡_, sym, _∙_}
 use mathlib.Core.Bool.{Bool, true, false, cond}
-use mathlib.Core.List.{List, [], _∷_, _++_, map, append-assoc, append-nil}
-use lib.ListN.{length, getD, take, drop, set, replicate, length-append, length-take, length-drop, length-set, drop-of-length-le}
+use mathlib.Core.List.{List, _++_, map, append-assoc, append-nil}
+use lib.ListN.{length, getD, take, drop, set, replicate, drop-of-length-le}
 use lib.Seq.{take-all, take-suc-set, drop-cons, drop-set-lt, take-take}
-use lib.Dec.{eqb}
 use borrow.Author.Tests.{eq-eqb, ne-eqb}
 use borrow.Rule.Slice.PartMut.{midOf, putMid, mid-len}
-use Rattle.record.specs.Part.{part, withPart}
+use Rattle.record.specs.Part.{part}
 use Rattle.record.specs.Record.{applied}
 use Rattle.rules.specs.Lent.{pageIn, withOrder}
 use Rattle.rules.specs.Steps.{freed, placed}

@@ -1,21 +1,20 @@
 -- Laws of the clauses: what each way out of a row's test shows, and the whole test as soundness's clauses.
-use Prim.Native.Nat.{ℕ, zero, suc, _+_, _*_, _-_, _%_, _^_, _≤_, _<_}
+use Prim.Native.Nat.{ℕ, suc, _+_, _*_, _-_, _^_, _≤_, _<_}
 use native.Mathlib.Omega.{arith}
 use native.Mathlib.Numerals.{add-one}
-use mathlib.Core.Path.{_≡_, refl, sym, ap, _∙_}
+use mathlib.Core.Path.{_≡_, refl, sym}
 use mathlib.Core.Bool.{Bool, true, false, cond, not, _&&_, _||_, and-false, and-true}
 use mathlib.Core.List.{List, [], _∷_}
 use lib.ListN.{length, getD, take, drop, drop-of-length-le}
 use lib.Seq.{drop-cons, take-take}
 use lib.Dec.{eqb, leb, ltb}
-use borrow.Author.Tests.{ltb-true, leb-true, eqb-true, lt-ltb, le-leb, lt-leb, eq-eqb, ne-eqb}
+use borrow.Author.Tests.{eqb-true, lt-ltb, le-leb, lt-leb, eq-eqb, ne-eqb}
 use Rattle.word.specs.Word.{num}
 use Rattle.record.specs.Part.{part}
-use Rattle.record.specs.Rows.{rowAt, rows, any}
-use Rattle.record.specs.Record.{pageOf, offsetOf, lengthOf, kindOf, valueOf, ownerOf, numberOf, committed, bodyOf, onPage, isLength, wellFormed, shareByte}
-use Rattle.record.proofs.Laws.{getD-part}
-use Rattle.rules.specs.Lent.{Lent, sizeOf, pagesOf, framesOf, lastOf, loggedOf, countOf, isDirty}
-use Rattle.rules.specs.Sound.{every, between, zeros, same, agree, apart, owning, s7-online-records, s8-owners, s14-online-zero, s10-in-log, s11-above-stamp, s9-number-once, s12-dirty, s13-apart}
+use Rattle.record.specs.Rows.{rowAt}
+use Rattle.record.specs.Record.{pageOf, offsetOf, lengthOf, kindOf, valueOf, ownerOf, numberOf, committed, bodyOf, isLength, wellFormed, shareByte}
+use Rattle.rules.specs.Lent.{Lent, sizeOf, pagesOf, framesOf, lastOf, loggedOf, countOf}
+use Rattle.rules.specs.Sound.{every, between, zeros, same, apart, owning, s7-online-records, s8-owners, s14-online-zero, s10-in-log, s11-above-stamp, s9-number-once, s12-dirty, s13-apart}
 use Rattle.onlinecheck.specs.Online.{owned, inLog, aboveStamp, otherNumber, entryAgrees, pageBelow, numberUpTo, onlineTest}
 use Rattle.onlinecheck.proofs.Rows.{and-both, every-imp}
 
@@ -152,20 +151,6 @@ pub above-row : (marks r : List ℕ) (x p k stamp : ℕ) → x ≡ ownerOf r →
 unfolding aboveStamp
 above-row marks r x p k stamp a b d h e = rw (← a, ← b, ← d, h, ← e)
 
--- S9
-pub other-row : (r q : List ℕ) (a b : ℕ) → a ≡ numberOf r → b ≡ numberOf q → (eqb a 0 || not (eqb a b)) ≡ otherNumber r q
-unfolding otherNumber
-other-row r q a b e f = rw (e, f)
-
--- S12
-pub agrees-dirty : (tables : List ℕ) (frames pages p : ℕ) (rs : List (List ℕ)) (x : Bool) → p < pages → getD tables (35 + frames + p) 0 % 2 ≡ 1 → x ≡ any (onPage p) rs → x ≡ entryAgrees (part (35 + frames) pages tables) rs p
-unfolding entryAgrees
-agrees-dirty tables frames pages p rs x h d e = rw (getD-part p (35 + frames) pages tables h, d) e
-
-pub agrees-clean : (tables : List ℕ) (frames pages p : ℕ) (rs : List (List ℕ)) (x : Bool) → p < pages → (getD tables (35 + frames + p) 0 % 2 ≡ 1 → ⊥) → x ≡ any (onPage p) rs → not x ≡ entryAgrees (part (35 + frames) pages tables) rs p
-unfolding entryAgrees
-agrees-clean tables frames pages p rs x h d e = rw (getD-part p (35 + frames) pages tables h, ne-eqb _ 1 d, e)
-
 -- S13
 pub share-other : (r q : List ℕ) (a b : ℕ) → a ≡ pageOf r → b ≡ pageOf q → (a ≡ b → ⊥) → false ≡ shareByte r q
 unfolding shareByte
@@ -183,6 +168,8 @@ pub apart-row : (r q : List ℕ) (x y : ℕ) (b : Bool) → x ≡ ownerOf r → 
 unfolding apart
 apart-row r q x y b e f h g = rw (← e, ← f, h, g)
 
--- the first of four tests that hold
-pub first-of : (a b d e : Bool) → (a && b && d && e) ≡ true → a ≡ true
-first-of a b d e h = and-both a b (and-both (a && b) d (and-both (a && b && d) e h .0) .0) .0
+-- a committed row is apart from every other
+pub apart-all : (r : List ℕ) (x : ℕ) → x ≡ ownerOf r → x ≡ 0 → (l : List (List ℕ)) → true ≡ every (apart r) l
+unfolding every apart
+apart-all r x e h [] = refl
+apart-all r x e h (q ∷ l) = rw (← e, h) (apart-all r x e h l)

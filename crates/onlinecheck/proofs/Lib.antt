@@ -1,3 +1,4 @@
--- The laws that callers' proofs cite: of tests over rows, and of the clauses.
+-- The laws that callers' proofs cite: of tests over rows, of the clauses, of marks.
 pub mod Rows
 pub mod Laws
+pub mod Marks

@@ -1,11 +1,11 @@
 -- Tests over the rows of a table: what each row passes, and the turns of the loops that go through them.
 use Prim.Native.Nat.{ℕ, zero, suc, _+_, _-_, _≤_, _<_}
 use native.Mathlib.Omega.{arith}
-use mathlib.Core.Path.{_≡_, refl, sym, ap, _∙_}
+use mathlib.Core.Path.{_≡_, refl, sym, _∙_}
 use mathlib.Core.Bool.{Bool, true, false, not, _&&_}
 use mathlib.Core.List.{List, [], _∷_}
 use borrow.Author.Tests.{not-true, not-false}
-use Rattle.record.specs.Rows.{rowAt, rows, any}
+use Rattle.record.specs.Rows.{rowAt, rows}
 use Rattle.rules.specs.Sound.{every, pairs, upTo}
 
 pub and-both : (a b : Bool) → (a && b) ≡ true → (a ≡ true) × (b ≡ true)
@@ -108,23 +108,3 @@ upTo-turn b m i x z p h e inv =
 pub upTo-done : (b : ℕ → Bool) (m i : ℕ) (z : Bool) → m ≤ i → upTo b (m - i) i ≡ z → true ≡ z
 unfolding upTo
 upTo-done b m i z p inv = let n : m - i ≡ 0 = omega arith in rw n at inv
-
--- a loop that leaves at the first row that passes
-pub any-none : (b : List ℕ → Bool) (w m : ℕ) (t : List ℕ) → any b (rows w (m - 0) t 0) ≡ any b (rows w m t 0)
-any-none b w m t = let n : m - 0 ≡ m = omega arith in rw n
-
-pub any-found : (b : List ℕ → Bool) (w m : ℕ) (t : List ℕ) (i : ℕ) (z : Bool) → i < m → b (rowAt w t i) ≡ true → any b (rows w (m - i) t i) ≡ z → true ≡ z
-unfolding any rows
-any-found b w m t i z p f inv =
-    let n : m - i ≡ suc (m - (i + 1)) = omega arith in
-    rw (n, f) at inv
-
-pub any-turn : (b : List ℕ → Bool) (w m : ℕ) (t : List ℕ) (i : ℕ) (z : Bool) → i < m → b (rowAt w t i) ≡ false → any b (rows w (m - i) t i) ≡ z → any b (rows w (m - (i + 1)) t (i + 1)) ≡ z
-unfolding any rows
-any-turn b w m t i z p f inv =
-    let n : m - i ≡ suc (m - (i + 1)) = omega arith in
-    rw (n, f) at inv
-
-pub any-done : (b : List ℕ → Bool) (w m : ℕ) (t : List ℕ) (i : ℕ) (z : Bool) → m ≤ i → any b (rows w (m - i) t i) ≡ z → false ≡ z
-unfolding any rows
-any-done b w m t i z p inv = let n : m - i ≡ 0 = omega arith in rw n at inv

@@ -1,2 +1,3 @@
 -- What the contracts of `onlinecheck` cite.
 pub mod Online
+pub mod Marks

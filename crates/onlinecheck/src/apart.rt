@@ -1,5 +1,5 @@
 // S13: uncommitted rows of different owners share no byte.
-// Each two rows are compared: a linear version would come here.
+// Each uncommitted row is compared with all later ones: a faster version would come here.
 ghost use mathlib.Core.Path.{_≡_};
 ghost use Prim.Native.Nat.{_+_, _*_, _-_, _≤_, _<_};
 ghost use lib.ListN.{length};
@@ -35,11 +35,15 @@ fn is_apart(t: &[u8], i: usize, j: usize) -> bool
     !share(t, i, j)
 }
 
-// Row i and each later row.
+// Row i and each later row; one that is committed is apart from all.
 fn apart_after(t: &[u8], i: usize, m: usize) -> bool
     requires { ⌜ (i < m) × (m * 19 ≤ length (now t)) ⌝ }
     ensures { λ r. ⌜ r ≡ every (apart (rowAt 19 (now (t .entry)) i)) (rows 19 (m - (i + 1)) (now (t .entry)) (i + 1)) ⌝ }
 {
+    let x = record::owner_of(t, i);
+    if x == 0 {
+        return true;
+    }
     let mut j = i + 1;
     while j < m {
         if !is_apart(t, i, j) {

@@ -1,51 +1,59 @@
-// S12: an entry is dirty exactly if a row is of its page.
-// A linear version comes here: a mark for each page that has a row.
+// S12: an entry is dirty exactly if a row is of its page. By S7 the rows' pages are in the store.
 ghost use mathlib.Core.Path.{_≡_};
+ghost use mathlib.Core.Bool.{true};
 ghost use Prim.Native.Nat.{_+_, _*_, _≤_, _<_};
 ghost use lib.ListN.{length};
 ghost use Rattle.record.specs.Part.{part};
-ghost use Rattle.record.specs.Rows.{rows, any};
-ghost use Rattle.record.specs.Record.{onPage};
-ghost use Rattle.rules.specs.Sound.{upTo};
-ghost use Rattle.onlinecheck.specs.Online.{entryAgrees};
+ghost use Rattle.record.specs.Rows.{rows};
+ghost use Rattle.rules.specs.Sound.{every, upTo};
+ghost use Rattle.onlinecheck.specs.Online.{entryAgrees, pageBelow};
+ghost use Rattle.onlinecheck.specs.Marks.{markPages, entryMarked};
 
-fn has_row(t: &[u8], m: usize, p: usize) -> bool
-    requires { ⌜ m * 19 ≤ length (now t) ⌝ }
-    ensures { λ r. ⌜ r ≡ any (onPage p) (rows 19 m (now (t .entry)) 0) ⌝ }
+// A mark at each row's page.
+fn mark_pages(t: &[u8], m: usize, marks: &mut [u8; 1024])
+    requires { ⌜ (m * 19 ≤ length (now t)) × (every (pageBelow 1024) (rows 19 m (now t) 0) ≡ true) ⌝ }
+    ensures { λ r. ⌜ now (marks .exit) ≡ markPages (rows 19 m (now (t .entry)) 0) (now (marks .entry)) ⌝ }
 {
     let mut i = 0;
     while i < m {
-        let q = record::page_of(t, 19, i);
-        if q.0 == p {
-            return true;
-        }
+        let p = record::page_of(t, 19, i);
+        let at = p.0;
+        marks[at] = 1;
         i += 1;
     }
-    false
 }
 
-fn agrees(t: &[u8], m: usize, tables: &[u8], pages: usize, frames: usize, p: usize) -> bool
-    requires { ⌜ (m * 19 ≤ length (now t)) × (length (now tables) ≡ 35 + frames + pages) × (p < pages) ⌝ }
-    ensures { λ r. ⌜ r ≡ entryAgrees (part (35 + frames) pages (now (tables .entry))) (rows 19 m (now (t .entry)) 0) p ⌝ }
+fn agrees(tables: &[u8], pages: usize, frames: usize, p: usize, marks: &[u8; 1024]) -> bool
+    requires { ⌜ (length (now tables) ≡ 35 + frames + pages) × (p < pages) × (pages ≤ 1024) ⌝ }
+    ensures { λ r. ⌜ r ≡ entryMarked (part (35 + frames) pages (now (tables .entry))) (now (marks .entry)) p ⌝ }
 {
     let e = tables[35 + frames + p];
-    let has = has_row(t, m, p);
+    let has = marks[p];
     if e % 2 == 1 {
-        return has;
+        return has == 1;
     }
-    !has
+    !(has == 1)
 }
 
-pub fn all_agree(t: &[u8], m: usize, tables: &[u8], pages: usize, frames: usize) -> bool
-    requires { ⌜ (m * 19 ≤ length (now t)) × (length (now tables) ≡ 35 + frames + pages) ⌝ }
-    ensures { λ r. ⌜ r ≡ upTo (entryAgrees (part (35 + frames) pages (now (tables .entry))) (rows 19 m (now (t .entry)) 0)) pages 0 ⌝ }
+fn all_marked(tables: &[u8], pages: usize, frames: usize, marks: &[u8; 1024]) -> bool
+    requires { ⌜ (length (now tables) ≡ 35 + frames + pages) × (pages ≤ 1024) ⌝ }
+    ensures { λ r. ⌜ r ≡ upTo (entryMarked (part (35 + frames) pages (now (tables .entry))) (now (marks .entry))) pages 0 ⌝ }
 {
     let mut p = 0;
     while p < pages {
-        if !agrees(t, m, tables, pages, frames, p) {
+        if !agrees(tables, pages, frames, p, marks) {
             return false;
         }
         p += 1;
     }
     true
+}
+
+pub fn all_agree(t: &[u8], m: usize, tables: &[u8], pages: usize, frames: usize) -> bool
+    requires { ⌜ (m * 19 ≤ length (now t)) × (length (now tables) ≡ 35 + frames + pages) × (pages ≤ 1024) × (every (pageBelow pages) (rows 19 m (now t) 0) ≡ true) ⌝ }
+    ensures { λ r. ⌜ r ≡ upTo (entryAgrees (part (35 + frames) pages (now (tables .entry))) (rows 19 m (now (t .entry)) 0)) pages 0 ⌝ }
+{
+    let mut marks = [0u8; 1024];
+    mark_pages(t, m, &mut marks);
+    all_marked(tables, pages, frames, &marks)
 }

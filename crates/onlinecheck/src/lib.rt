@@ -9,6 +9,7 @@ ghost use Rattle.record.specs.Rows.{rows};
 ghost use Rattle.record.specs.Record.{wellFormed};
 ghost use Rattle.rules.specs.Sound.{every, pairs, upTo, zeros, apart};
 ghost use Rattle.onlinecheck.specs.Online.{owned, inLog, aboveStamp, otherNumber, entryAgrees, pageBelow, onlineTest};
+ghost use Rattle.onlinecheck.specs.Marks.{slotted};
 
 mod formed; // S7
 mod owned; // S8
@@ -49,18 +50,19 @@ fn sound_rows(
 fn sound_ties(
     online: &[u8],
     m: usize,
+    first: u64,
     marks: &[u8],
     tables: &[u8],
     pages: usize,
     frames: usize,
 ) -> bool
-    requires { ⌜ (m * 19 ≤ length (now online)) × (length (now marks) ≡ 12 + 8 * pages) × (length (now tables) ≡ 35 + frames + pages) × (every (pageBelow pages) (rows 19 m (now online) 0) ≡ true) ⌝ }
+    requires { ⌜ (m * 19 ≤ length (now online)) × (length (now marks) ≡ 12 + 8 * pages) × (length (now tables) ≡ 35 + frames + pages) × (pages ≤ 1024) × (every (pageBelow pages) (rows 19 m (now online) 0) ≡ true) × (every (slotted first) (rows 19 m (now online) 0) ≡ true) ⌝ }
     ensures { λ r. ⌜ r ≡ (every (aboveStamp (now (marks .entry))) (rows 19 m (now (online .entry)) 0) && pairs otherNumber (rows 19 m (now (online .entry)) 0) && upTo (entryAgrees (part (35 + frames) pages (now (tables .entry))) (rows 19 m (now (online .entry)) 0)) pages 0 && pairs apart (rows 19 m (now (online .entry)) 0)) ⌝ }
 {
     if !stamped::all_above(online, m, marks, pages) {
         return false;
     }
-    if !once::all_once(online, m) {
+    if !once::all_once(online, m, first) {
         return false;
     }
     if !dirty::all_agree(online, m, tables, pages, frames) {
@@ -88,5 +90,6 @@ pub fn sound_online(
     if !sound_rows(online, m, log, n, tables, size, pages, last) {
         return false;
     }
-    sound_ties(online, m, marks, tables, pages, frames)
+    let first = last - n as u64 + 1;
+    sound_ties(online, m, first, marks, tables, pages, frames)
 }

@@ -1,46 +1,46 @@
-// S9: no nonzero number occurs twice.
-// A linear version comes here: marks over the log's rows, one for each number.
+// S9: no nonzero number occurs twice. By S8 and S10 a nonzero number is one of the log's.
 ghost use mathlib.Core.Path.{_≡_};
-ghost use Prim.Native.Nat.{_+_, _*_, _-_, _≤_, _<_};
+ghost use mathlib.Core.Bool.{true};
+ghost use Prim.Native.Nat.{_+_, _*_, _≤_};
 ghost use lib.ListN.{length};
 ghost use Rattle.record.specs.Rows.{rowAt, rows};
 ghost use Rattle.rules.specs.Sound.{every, pairs};
 ghost use Rattle.onlinecheck.specs.Online.{otherNumber};
+ghost use Rattle.onlinecheck.specs.Marks.{slotted, free, withNumber, allFree};
 
-fn is_other(t: &[u8], i: usize, j: usize) -> bool
-    requires { ⌜ (i * 19 + 19 ≤ length (now t)) × (j * 19 + 19 ≤ length (now t)) ⌝ }
-    ensures { λ r. ⌜ r ≡ otherNumber (rowAt 19 (now (t .entry)) i) (rowAt 19 (now (t .entry)) j) ⌝ }
+// The number of row i is not marked yet, and is marked from now on.
+fn take_number(t: &[u8], i: usize, first: u64, marks: &mut [u8; 2048]) -> bool
+    requires { ⌜ (i * 19 + 19 ≤ length (now t)) × (slotted first (rowAt 19 (now t) i) ≡ true) ⌝ }
+    ensures { λ r. ⌜ (r ≡ free first (now (marks .entry)) (rowAt 19 (now (t .entry)) i)) × (now (marks .exit) ≡ withNumber first (now (marks .entry)) (rowAt 19 (now (t .entry)) i)) ⌝ }
 {
-    let a = record::number_of(t, i);
-    let b = record::number_of(t, j);
-    (a.0 == 0) | !(a.0 == b.0)
-}
-
-// No later row has the number of row i.
-fn once_after(t: &[u8], i: usize, m: usize) -> bool
-    requires { ⌜ (i < m) × (m * 19 ≤ length (now t)) ⌝ }
-    ensures { λ r. ⌜ r ≡ every (otherNumber (rowAt 19 (now (t .entry)) i)) (rows 19 (m - (i + 1)) (now (t .entry)) (i + 1)) ⌝ }
-{
-    let mut j = i + 1;
-    while j < m {
-        if !is_other(t, i, j) {
-            return false;
-        }
-        j += 1;
+    let k = record::number_of(t, i);
+    if k.0 == 0 {
+        return true;
     }
-    true
+    let at = (k.0 - first) as usize;
+    let was = marks[at];
+    marks[at] = 1;
+    !(was == 1)
 }
 
-pub fn all_once(t: &[u8], m: usize) -> bool
-    requires { ⌜ m * 19 ≤ length (now t) ⌝ }
-    ensures { λ r. ⌜ r ≡ pairs otherNumber (rows 19 m (now (t .entry)) 0) ⌝ }
+fn all_free(t: &[u8], m: usize, first: u64, marks: &mut [u8; 2048]) -> bool
+    requires { ⌜ (m * 19 ≤ length (now t)) × (every (slotted first) (rows 19 m (now t) 0) ≡ true) ⌝ }
+    ensures { λ r. ⌜ r ≡ allFree first (rows 19 m (now (t .entry)) 0) (now (marks .entry)) ⌝ }
 {
     let mut i = 0;
     while i < m {
-        if !once_after(t, i, m) {
+        if !take_number(t, i, first, marks) {
             return false;
         }
         i += 1;
     }
     true
+}
+
+pub fn all_once(t: &[u8], m: usize, first: u64) -> bool
+    requires { ⌜ (m * 19 ≤ length (now t)) × (every (slotted first) (rows 19 m (now t) 0) ≡ true) ⌝ }
+    ensures { λ r. ⌜ r ≡ pairs otherNumber (rows 19 m (now (t .entry)) 0) ⌝ }
+{
+    let mut marks = [0u8; 2048];
+    all_free(t, m, first, &mut marks)
 }

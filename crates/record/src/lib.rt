@@ -1,5 +1,5 @@
-// Records as rows of bytes: a row's fields, and what a record does to a page.
-// A function that reads row i of w bytes wants that row to lie within the table; one that changes a page takes any page.
+// Records as rows of bytes: the fields of a row. What a record does to a page is in crate `apply`.
+// A function that reads row i of w bytes wants that row to lie within the table.
 ghost use mathlib.Core.Path.{_≡_};
 ghost use Prim.Native.Nat.{ℕ, _+_, _*_, _≤_, _<_};
 ghost use lib.ListN.{length};

@@ -13,7 +13,7 @@ use Rattle.rules.specs.Answers.{replyOf}
 use Rattle.rules.specs.Lent.{Lent}
 use Rattle.rules.specs.Sound.{sound}
 use Rattle.rules.specs.Steps.{Left}
-use Rattle.rules.specs.Calls.{Outcome, refuseIf, checked, doneWith, settled}
+use Rattle.rules.specs.Calls.{Outcome, refuseIf, checked, doneWith, dueOr, settled}
 use Rattle.rules.proofs.Verdicts.{refused, passed, holds}
 use Rattle.ventarico.specs.Said.{Told, doneAs}
 
@@ -42,3 +42,34 @@ judged s v w b e h k = sym (passed (not (sound s)) NotSound v w (ap not (sym e) 
 
 pub is-sound : (s : Lent) (b : Bool) → b ≡ sound s → not b ≡ false → sound s ≡ true
 is-sound s b e h = holds (sound s) (ap not (sym e) ∙ h)
+
+-- read's buffer beside them
+pub buffer-refused : (v : Verdict) (s : Lent) (buffer : List ℕ) (o : Outcome) (why : Refusal) → v ≡ Refuse why → buffer ≡ settled v s buffer o .buffer
+buffer-refused v s buffer o why e = sym (ap (λ (w : Verdict). settled w s buffer o .buffer) e)
+
+pub buffer-done : (v : Verdict) (s : Lent) (buffer after b : List ℕ) (d : Left) → v ≡ Go → b ≡ after → b ≡ settled v s buffer (doneWith d after) .buffer
+buffer-done v s buffer after b d e h = h ∙ sym (ap (λ (w : Verdict). settled w s buffer (doneWith d after) .buffer) e)
+
+-- compact: not due, and due
+pub told-not-due : (v : Verdict) (s : Lent) (b : Bool) (o : Outcome) (r : Reply) → v ≡ Go → b ≡ false → r ≡ replyOf NotDue → Told (settled v s [] (dueOr b s o)) r s
+told-not-due v s b o r e f h =
+    record {
+      reply = h ∙ sym (λ i. replyOf (settled (e i) s [] (dueOr (f i) s o) .answer));
+      lent = sym (λ i. settled (e i) s [] (dueOr (f i) s o) .lent);
+    }
+
+pub told-due : (v : Verdict) (s : Lent) (b : Bool) (d : Left) (r : Reply) (t : Lent) → v ≡ Go → b ≡ true → r ≡ doneAs (d .reads) (d .writes) (d .logs) → t ≡ d .lent → Told (settled v s [] (dueOr b s (doneWith d []))) r t
+told-due v s b d r t e f h l =
+    record {
+      reply = h ∙ sym (λ i. replyOf (settled (e i) s [] (dueOr (f i) s (doneWith d [])) .answer));
+      lent = l ∙ sym (λ i. settled (e i) s [] (dueOr (f i) s (doneWith d [])) .lent);
+    }
+
+-- a test's value from the call that asked it
+pub not-so : (a b : Bool) → a ≡ b → not a ≡ true → b ≡ false
+not-so true b e h = absurd (mathlib.Core.Bool.false≢true h)
+not-so false b e h = sym e
+
+pub so : (a b : Bool) → a ≡ b → not a ≡ false → b ≡ true
+so true b e h = sym e
+so false b e h = absurd (mathlib.Core.Bool.false≢true (sym h))

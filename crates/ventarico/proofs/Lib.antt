@@ -1,2 +1,4 @@
 -- Laws of the doors.
 pub mod Laws
+pub mod Went
+pub mod Once

@@ -22,3 +22,10 @@ pub fn done(reads: u32, writes: u32, logs: u32) -> Reply
         logs,
     }))
 }
+
+// Done, and nothing was due.
+pub fn not_due() -> Reply
+    ensures { λ r. ⌜ r ≡ replyOf Answer.NotDue ⌝ }
+{
+    rules::answered(Answer::NotDue)
+}

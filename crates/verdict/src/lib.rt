@@ -2,11 +2,9 @@
 // These ask nothing of their caller; `Go` is what a door waits for.
 ghost use mathlib.Core.Path.{_≡_};
 ghost use mathlib.Core.Bool.{true, _&&_};
-ghost use Prim.Native.Nat.{_*_, _≤_};
+ghost use Prim.Native.Nat.{_≤_};
 ghost use lib.ListN.{length, getD};
 ghost use lib.Dec.{eqb};
-ghost use Rattle.record.specs.Rows.{rows, keep};
-ghost use Rattle.record.specs.Record.{ownedBy};
 ghost use Rattle.rules.specs.Sound.{inRange, exactLengths};
 ghost use Rattle.rules.specs.Lent.{lentOf, entryAt};
 ghost use Rattle.rules.specs.Calls.{judgeBegin, judgeRead, judgeUpdate, judgeCommit, judgeAbort, judgeEvict, judgeCompact, judgeClose, judgeCheckpoint, judgeRestart, judgeFormat};
@@ -220,7 +218,10 @@ pub fn judge_commit(
     let m = word::load(tables, 0, 2) as usize;
     let n = word::load(marks, 8, 4) as usize;
     let last = word::load(marks, 0, 4);
-    let k = owned_by(online, m, x);
+    if 32 < x {
+        return Verdict::Refuse(Refusal::Argument(Bad::Number));
+    }
+    let k = table::count_owned(online, m, x as u8);
     judge::may_commit(given.span as usize, n, last, tables, k, x)
 }
 
@@ -300,17 +301,6 @@ fn entry_of(tables: &[u8], frames: usize, p: u32) -> u8
         return 0;
     }
     tables[at]
-}
-
-// How many online rows are of owner x; an owner past a byte has none.
-fn owned_by(online: &[u8], m: usize, x: u32) -> usize
-    requires { ⌜ (m * 19 ≤ length (now online)) × (m ≤ 512) ⌝ }
-    ensures { λ r. ⌜ (r ≡ length (keep (ownedBy x) (rows 19 m (now (online .entry)) 0))) × (r ≤ 512) ⌝ }
-{
-    if 255 < x {
-        return 0;
-    }
-    table::count_owned(online, m, x as u8)
 }
 
 // Format's lent lengths.

@@ -3,7 +3,6 @@ use Prim.Native.Nat.{_≤_, _-_}
 use mathlib.Core.Path.{_≡_, refl}
 use mathlib.Core.List.{_++_, map}
 use lib.ListN.{length, take, drop}
-use denote.Ref.{now}
 use borrow.Author.Needs.{needs}
 use Rattle.rules.specs.Steps.{freed}
 use Rattle.frames.proofs.Laws.{map-turn, map-done}

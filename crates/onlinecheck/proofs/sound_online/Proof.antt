@@ -1,8 +1,13 @@
 -- `onlinecheck::sound_online` meets its contract: the rows' clauses, then the others.
 use borrow.Author.Needs.{needs}
+use denote.Ref.{now}
+use Prim.Native.Nat.{_*_}
+use lib.ListN.{drop}
+use Rattle.record.specs.Rows.{rows}
+use Rattle.rules.specs.Sound.{zeros}
 use Rattle.onlinecheck.specs.Online.{onlineTest}
-use Rattle.onlinecheck.proofs.Laws.{formed-page, first-of}
 use Rattle.onlinecheck.proofs.Rows.{passed, failed}
+use Rattle.onlinecheck.proofs.Marks.{rows-give}
 use Rattle.onlinecheck.proofs.sound_online.Statement.{statement}
 use Rattle.onlinecheck.proofs.sound_online.Tie as tie
 
@@ -13,14 +18,23 @@ returns : tie.Need-returns
 unfolding onlineTest
 returns c = rw (failed (c .before .sound-rows .ensures) (c .if1 .taken))
 
+sub-first : tie.Need-sub-first
+sub-first c = search needs
+
+add-first : tie.Need-add-first
+add-first c = search needs
+
 sound-ties-requires : tie.Need-sound-ties-requires
 sound-ties-requires c κs =
     let a = c .before .before .before .before .before .before .args in
-    (search needs, search needs, search needs, formed-page (a .size) (a .pages) _ (first-of _ _ _ _ (passed (c .before .sound-rows .ensures) (c .if1 .left))))
+    let g = rows-give (now (a .tables)) (now (a .log)) (a .size) (a .pages) (a .last) (a .n) (rows 19 (a .m) (now (a .online)) 0) _ (zeros (drop (a .m * 19) (now (a .online)))) (c .before .before .before .before .before .before .pre .2) (c .before .before .before .before .before .before .pre .10) (c .before .sound-rows .ensures) (c .if1 .left) in
+    (search needs, search needs, search needs, search needs, g .0, g .1)
 
 returns-2 : tie.Need-returns-2
 unfolding onlineTest
 returns-2 c = rw (passed (c .before .before .sound-rows .ensures) (c .before .if1 .left)) (c .sound-ties .ensures)
 
 pub sound-online-spec : {M : Type 1} → statement M
-sound-online-spec = tie.close (tie.spec sound-rows-requires returns sound-ties-requires returns-2)
+sound-online-spec =
+    tie.close
+    (tie.spec sound-rows-requires returns sub-first add-first sound-ties-requires returns-2)

@@ -1,26 +1,28 @@
+-- `verdict::judge_begin` meets its contract: the check first, then the case of `judgeBegin` that the call's own tests pick.
+use Rattle.judge.proofs.Laws.{turned, unturned}
+use Rattle.rules.proofs.Verdicts.{refused, passed}
+use Rattle.sound.proofs.Laws.{sound-shaped}
+use Rattle.rules.specs.Lent.{lentOf}
+use denote.Ref.{now}
+use native.Mathlib.Omega.{arith}
+use Rattle.rules.specs.Calls.{judgeBegin}
 use borrow.Author.Needs.{needs}
 use Rattle.verdict.proofs.judge_begin.Statement.{statement}
 use Rattle.verdict.proofs.judge_begin.Tie as tie
-use Rattle.verdict.proofs.judge_begin.Reads as reads
-use Rattle.verdict.proofs.judge_begin.Lts as lts
-use Rattle.judge.proofs.may_begin.Reads as may-begin-reads
-use Rattle.sound.proofs.is_sound.Reads as is-sound-reads
 
--- src/lib.rt:29:9
 is-sound-requires : tie.Need-is-sound-requires
 is-sound-requires c κs = search needs
 
--- src/lib.rt:30:9
 returns : tie.Need-returns
-returns c = search needs
+unfolding judgeBegin
+returns c = refused _ _ _ (turned _ _ _ (c .before .is-sound .ensures) (c .if1 .taken))
 
--- src/lib.rt:32:5
 may-begin-requires : tie.Need-may-begin-requires
-may-begin-requires c κs = search needs
+may-begin-requires c κs = omega (arith, sound-shaped (lentOf (now (c .before .before .before .before .before .before .before .before .before .args .fixed)) (now (c .before .before .before .before .before .before .before .before .before .args .marks)) (now (c .before .before .before .before .before .before .before .before .before .args .log)) (now (c .before .before .before .before .before .before .before .before .before .args .stored)) (now (c .before .before .before .before .before .before .before .before .before .args .tables)) (now (c .before .before .before .before .before .before .before .before .before .args .online)) (now (c .before .before .before .before .before .before .before .before .before .args .pool))) (unturned _ _ (c .before .is-sound .ensures) (c .if1 .left)))
 
--- src/lib.rt:17:1
 returns-2 : tie.Need-returns-2
-returns-2 c = search needs
+unfolding judgeBegin
+returns-2 c = passed _ _ _ _ (turned _ _ _ (c .before .before .is-sound .ensures) (c .before .if1 .left)) (c .may-begin .ensures)
 
 pub judge-begin-spec : {M : Type 1} → statement M
 judge-begin-spec = tie.close (tie.spec is-sound-requires returns may-begin-requires returns-2)

@@ -1,26 +1,24 @@
+-- `verdict::judge_checkpoint` meets its contract: the check first, then the case of `judgeCheckpoint` that the call's own tests pick.
+use Rattle.judge.proofs.Laws.{turned}
+use Rattle.rules.proofs.Verdicts.{refused, passed}
+use Rattle.rules.specs.Calls.{judgeCheckpoint}
 use borrow.Author.Needs.{needs}
 use Rattle.verdict.proofs.judge_checkpoint.Statement.{statement}
 use Rattle.verdict.proofs.judge_checkpoint.Tie as tie
-use Rattle.verdict.proofs.judge_checkpoint.Reads as reads
-use Rattle.verdict.proofs.judge_checkpoint.Lts as lts
-use Rattle.judge.proofs.may_checkpoint.Reads as may-checkpoint-reads
-use Rattle.sound.proofs.is_sound.Reads as is-sound-reads
 
--- src/lib.rt:83:9
 is-sound-requires : tie.Need-is-sound-requires
 is-sound-requires c κs = search needs
 
--- src/lib.rt:84:9
 returns : tie.Need-returns
-returns c = search needs
+unfolding judgeCheckpoint
+returns c = refused _ _ _ (turned _ _ _ (c .before .is-sound .ensures) (c .if1 .taken))
 
--- src/lib.rt:86:5
 may-checkpoint-requires : tie.Need-may-checkpoint-requires
 may-checkpoint-requires c κs = search needs
 
--- src/lib.rt:70:1
 returns-2 : tie.Need-returns-2
-returns-2 c = search needs
+unfolding judgeCheckpoint
+returns-2 c = passed _ _ _ _ (turned _ _ _ (c .before .before .is-sound .ensures) (c .before .if1 .left)) (c .may-checkpoint .ensures)
 
 pub judge-checkpoint-spec : {M : Type 1} → statement M
 judge-checkpoint-spec =

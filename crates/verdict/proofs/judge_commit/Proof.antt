@@ -1,49 +1,56 @@
+-- `verdict::judge_commit` meets its contract: the check first, then the case of `judgeCommit` that the call's own tests pick.
+use Rattle.judge.proofs.Laws.{turned, unturned}
+use Rattle.rules.proofs.Verdicts.{refused, passed}
+use Rattle.sound.proofs.Laws.{sound-shaped}
+use Rattle.rules.specs.Lent.{lentOf}
+use denote.Ref.{now}
+use mathlib.Core.Path.{ap, _∙_}
+use native.Mathlib.Omega.{arith}
+use Rattle.record.specs.Rows.{rows, keep}
+use Rattle.record.specs.Record.{ownedBy}
+use lib.ListN.{length}
+use Prim.Native.Nat.{ℕ}
+use Rattle.clerk.proofs.Laws.{too-high}
+use Rattle.rules.specs.Calls.{mayCommit, judgeCommit}
 use borrow.Author.Needs.{needs}
 use Rattle.verdict.proofs.judge_commit.Statement.{statement}
 use Rattle.verdict.proofs.judge_commit.Tie as tie
-use Rattle.verdict.proofs.judge_commit.Reads as reads
-use Rattle.verdict.proofs.judge_commit.Lts as lts
-use Rattle.durable.proofs.params_of.Reads as params-of-reads
-use Rattle.judge.proofs.may_commit.Reads as may-commit-reads
-use Rattle.sound.proofs.is_sound.Reads as is-sound-reads
-use Rattle.verdict.proofs.owned_by.Reads as owned-by-reads
-use Rattle.word.proofs.load.Reads as load-reads
 
--- src/lib.rt:216:9
 is-sound-requires : tie.Need-is-sound-requires
 is-sound-requires c κs = search needs
 
--- src/lib.rt:217:9
 returns : tie.Need-returns
-returns c = search needs
+unfolding judgeCommit
+returns c = refused _ _ _ (turned _ _ _ (c .before .is-sound .ensures) (c .if1 .taken))
 
--- src/lib.rt:219:9
 params-of-requires : tie.Need-params-of-requires
-params-of-requires c κs = search needs
+params-of-requires c κs = sound-shaped (lentOf (now (c .before .before .before .before .before .before .before .before .before .args .fixed)) (now (c .before .before .before .before .before .before .before .before .before .args .marks)) (now (c .before .before .before .before .before .before .before .before .before .args .log)) (now (c .before .before .before .before .before .before .before .before .before .args .stored)) (now (c .before .before .before .before .before .before .before .before .before .args .tables)) (now (c .before .before .before .before .before .before .before .before .before .args .online)) (now (c .before .before .before .before .before .before .before .before .before .args .pool))) (unturned _ _ (c .before .is-sound .ensures) (c .if1 .left)) .sized .fixed
 
--- src/lib.rt:220:13
 load-requires : tie.Need-load-requires
-load-requires c κs = search needs
+load-requires c κs = omega (arith, sound-shaped (lentOf (now (c .before .before .before .before .before .before .before .before .before .before .args .fixed)) (now (c .before .before .before .before .before .before .before .before .before .before .args .marks)) (now (c .before .before .before .before .before .before .before .before .before .before .args .log)) (now (c .before .before .before .before .before .before .before .before .before .before .args .stored)) (now (c .before .before .before .before .before .before .before .before .before .before .args .tables)) (now (c .before .before .before .before .before .before .before .before .before .before .args .online)) (now (c .before .before .before .before .before .before .before .before .before .before .args .pool))) (unturned _ _ (c .before .before .is-sound .ensures) (c .before .if1 .left)))
 
--- src/lib.rt:221:13
 load-requires-2 : tie.Need-load-requires-2
-load-requires-2 c κs = search needs
+load-requires-2 c κs = omega (arith, sound-shaped (lentOf (now (c .before .before .before .before .before .before .before .before .before .before .before .args .fixed)) (now (c .before .before .before .before .before .before .before .before .before .before .before .args .marks)) (now (c .before .before .before .before .before .before .before .before .before .before .before .args .log)) (now (c .before .before .before .before .before .before .before .before .before .before .before .args .stored)) (now (c .before .before .before .before .before .before .before .before .before .before .before .args .tables)) (now (c .before .before .before .before .before .before .before .before .before .before .before .args .online)) (now (c .before .before .before .before .before .before .before .before .before .before .before .args .pool))) (unturned _ _ (c .before .before .before .is-sound .ensures) (c .before .before .if1 .left)))
 
--- src/lib.rt:222:9
 load-requires-3 : tie.Need-load-requires-3
-load-requires-3 c κs = search needs
+load-requires-3 c κs = omega (arith, sound-shaped (lentOf (now (c .before .before .before .before .before .before .before .before .before .before .before .before .args .fixed)) (now (c .before .before .before .before .before .before .before .before .before .before .before .before .args .marks)) (now (c .before .before .before .before .before .before .before .before .before .before .before .before .args .log)) (now (c .before .before .before .before .before .before .before .before .before .before .before .before .args .stored)) (now (c .before .before .before .before .before .before .before .before .before .before .before .before .args .tables)) (now (c .before .before .before .before .before .before .before .before .before .before .before .before .args .online)) (now (c .before .before .before .before .before .before .before .before .before .before .before .before .args .pool))) (unturned _ _ (c .before .before .before .before .is-sound .ensures) (c .before .before .before .if1 .left)))
 
--- src/lib.rt:223:9
-owned-by-requires : tie.Need-owned-by-requires
-owned-by-requires c κs = search needs
-
--- src/lib.rt:224:5
-may-commit-requires : tie.Need-may-commit-requires
-may-commit-requires c κs = search needs
-
--- src/lib.rt:204:1
 returns-2 : tie.Need-returns-2
-returns-2 c = search needs
+unfolding judgeCommit mayCommit
+returns-2 c = passed _ _ _ _ (turned _ _ _ (c .before .before .before .before .before .before .is-sound .ensures) (c .before .before .before .before .before .if1 .left)) (refused _ _ _ (too-high _ (c .if2 .taken)))
+
+cast-count-owned : tie.Need-cast-count-owned
+cast-count-owned c = search needs
+
+count-owned-requires : tie.Need-count-owned-requires
+count-owned-requires c κs = omega (arith, sound-shaped (lentOf (now (c .before .before .before .before .before .before .before .before .before .before .before .before .before .before .args .fixed)) (now (c .before .before .before .before .before .before .before .before .before .before .before .before .before .before .args .marks)) (now (c .before .before .before .before .before .before .before .before .before .before .before .before .before .before .args .log)) (now (c .before .before .before .before .before .before .before .before .before .before .before .before .before .before .args .stored)) (now (c .before .before .before .before .before .before .before .before .before .before .before .before .before .before .args .tables)) (now (c .before .before .before .before .before .before .before .before .before .before .before .before .before .before .args .online)) (now (c .before .before .before .before .before .before .before .before .before .before .before .before .before .before .args .pool))) (unturned _ _ (c .before .before .before .before .before .before .is-sound .ensures) (c .before .before .before .before .before .if1 .left)), c .before .before .before .load .ensures .0)
+
+may-commit-requires : tie.Need-may-commit-requires
+may-commit-requires c κs = omega (arith, sound-shaped (lentOf (now (c .before .before .before .before .before .before .before .before .before .before .before .before .before .before .before .args .fixed)) (now (c .before .before .before .before .before .before .before .before .before .before .before .before .before .before .before .args .marks)) (now (c .before .before .before .before .before .before .before .before .before .before .before .before .before .before .before .args .log)) (now (c .before .before .before .before .before .before .before .before .before .before .before .before .before .before .before .args .stored)) (now (c .before .before .before .before .before .before .before .before .before .before .before .before .before .before .before .args .tables)) (now (c .before .before .before .before .before .before .before .before .before .before .before .before .before .before .before .args .online)) (now (c .before .before .before .before .before .before .before .before .before .before .before .before .before .before .before .args .pool))) (unturned _ _ (c .before .before .before .before .before .before .before .is-sound .ensures) (c .before .before .before .before .before .before .if1 .left)), c .before .before .before .before .load .ensures .0, c .before .before .before .load2 .ensures .0, c .before .before .load3 .ensures .1, c .count-owned .ensures .1)
+
+returns-3 : tie.Need-returns-3
+unfolding judgeCommit
+returns-3 c = passed _ _ _ _ (turned _ _ _ (c .before .before .before .before .before .before .before .before .is-sound .ensures) (c .before .before .before .before .before .before .before .if1 .left)) (c .may-commit .ensures ∙ (λ i. mayCommit (c .before .before .before .before .before .before .params-of .ensures .4 i) (c .before .before .before .before .load2 .ensures .0 i) (c .before .before .before .load3 .ensures .0 i) (now (c .before .before .before .before .before .before .before .before .before .before .before .before .before .before .before .before .args .tables)) ((c .before .count-owned .ensures .0 ∙ ap (λ (m : ℕ). length (keep (ownedBy (c .before .before .before .before .before .before .before .before .before .before .before .before .before .before .before .before .args .x)) (rows 19 m (now (c .before .before .before .before .before .before .before .before .before .before .before .before .before .before .before .before .args .online)) 0))) (c .before .before .before .before .before .load .ensures .0)) i) (c .before .before .before .before .before .before .before .before .before .before .before .before .before .before .before .before .args .x)))
 
 pub judge-commit-spec : {M : Type 1} → statement M
 judge-commit-spec =
@@ -55,6 +62,8 @@ judge-commit-spec =
     load-requires
     load-requires-2
     load-requires-3
-    owned-by-requires
+    returns-2
+    cast-count-owned
+    count-owned-requires
     may-commit-requires
-    returns-2)
+    returns-3)

@@ -1,30 +1,29 @@
+-- `verdict::judge_format` meets its contract: the parameters first, then the lent lengths.
+use Rattle.judge.proofs.Laws.{turned, unturned}
+use Rattle.rules.proofs.Verdicts.{refused, passed}
+use mathlib.Core.Path.{refl}
+use Rattle.rules.specs.Calls.{judgeFormat}
 use borrow.Author.Needs.{needs}
 use Rattle.verdict.proofs.judge_format.Statement.{statement}
 use Rattle.verdict.proofs.judge_format.Tie as tie
-use Rattle.verdict.proofs.judge_format.Reads as reads
-use Rattle.verdict.proofs.judge_format.Lts as lts
-use Rattle.durable.proofs.in_range.Reads as in-range-reads
-use Rattle.verdict.proofs.lengths.Reads as lengths-reads
 
--- src/lib.rt:265:9
 in-range-requires : tie.Need-in-range-requires
 in-range-requires c κs = search needs
 
--- src/lib.rt:272:9
 returns : tie.Need-returns
-returns c = search needs
+unfolding judgeFormat
+returns c = refused _ _ _ (turned _ _ _ (c .before .in-range .ensures) (c .if1 .taken))
 
--- src/lib.rt:274:9
 lengths-requires : tie.Need-lengths-requires
-lengths-requires c κs = search needs
+lengths-requires c κs = unturned _ _ (c .before .in-range .ensures) (c .if1 .left)
 
--- src/lib.rt:288:9
 returns-2 : tie.Need-returns-2
-returns-2 c = search needs
+unfolding judgeFormat
+returns-2 c = passed _ _ _ _ (turned _ _ _ (c .before .before .before .in-range .ensures) (c .before .before .if1 .left)) (refused _ _ _ (turned _ _ _ (c .before .lengths .ensures) (c .if2 .taken)))
 
--- src/lib.rt:249:1
 returns-3 : tie.Need-returns-3
-returns-3 c = search needs
+unfolding judgeFormat
+returns-3 c = passed _ _ _ _ (turned _ _ _ (c .before .before .before .in-range .ensures) (c .before .before .if1 .left)) (passed _ _ _ _ (turned _ _ _ (c .before .lengths .ensures) (c .if2 .left)) refl)
 
 pub judge-format-spec : {M : Type 1} → statement M
 judge-format-spec =

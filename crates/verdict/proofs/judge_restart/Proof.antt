@@ -1,35 +1,37 @@
+-- `verdict::judge_restart` meets its contract: the check first, then the case of `judgeRestart` that the call's own tests pick.
+use Rattle.judge.proofs.Laws.{turned, unturned}
+use Rattle.rules.proofs.Verdicts.{refused, passed}
+use Rattle.rules.specs.Lent.{lentOf}
+use denote.Ref.{now}
+use mathlib.Core.Path.{refl, subst₂}
+use Rattle.durable.proofs.Laws.{durable-sized, durable-logged, durable-log-records}
+use borrow.Author.Tests.{lt-ltb, le-ltb}
+use Prim.Native.Nat.{ℕ, _<_, _≤_}
+use Rattle.rules.specs.Calls.{judgeRestart}
 use borrow.Author.Needs.{needs}
 use Rattle.verdict.proofs.judge_restart.Statement.{statement}
 use Rattle.verdict.proofs.judge_restart.Tie as tie
-use Rattle.verdict.proofs.judge_restart.Reads as reads
-use Rattle.verdict.proofs.judge_restart.Lts as lts
-use Rattle.durable.proofs.params_of.Reads as params-of-reads
-use Rattle.durable.proofs.sound_durable.Reads as sound-durable-reads
-use Rattle.restart.proofs.count_entering.Reads as count-entering-reads
 
--- src/lib.rt:238:9
 sound-durable-requires : tie.Need-sound-durable-requires
 sound-durable-requires c κs = search needs
 
--- src/lib.rt:239:9
 returns : tie.Need-returns
-returns c = search needs
+unfolding judgeRestart
+returns c = refused _ _ _ (turned _ _ _ (c .before .sound-durable .ensures) (c .if1 .taken))
 
--- src/lib.rt:241:9
 params-of-requires : tie.Need-params-of-requires
-params-of-requires c κs = search needs
+params-of-requires c κs = durable-sized (lentOf (now (c .before .before .before .before .before .before .before .before .before .args .fixed)) (now (c .before .before .before .before .before .before .before .before .before .args .marks)) (now (c .before .before .before .before .before .before .before .before .before .args .log)) (now (c .before .before .before .before .before .before .before .before .before .args .stored)) (now (c .before .before .before .before .before .before .before .before .before .args .tables)) (now (c .before .before .before .before .before .before .before .before .before .args .online)) (now (c .before .before .before .before .before .before .before .before .before .args .pool))) (unturned _ _ (c .before .sound-durable .ensures) (c .if1 .left)) .fixed
 
--- src/lib.rt:242:9
 count-entering-requires : tie.Need-count-entering-requires
-count-entering-requires c κs = search needs
+count-entering-requires c κs = (durable-sized (lentOf (now (c .before .before .before .before .before .before .before .before .before .before .args .fixed)) (now (c .before .before .before .before .before .before .before .before .before .before .args .marks)) (now (c .before .before .before .before .before .before .before .before .before .before .args .log)) (now (c .before .before .before .before .before .before .before .before .before .before .args .stored)) (now (c .before .before .before .before .before .before .before .before .before .before .args .tables)) (now (c .before .before .before .before .before .before .before .before .before .before .args .online)) (now (c .before .before .before .before .before .before .before .before .before .before .args .pool))) (unturned _ _ (c .before .before .sound-durable .ensures) (c .before .if1 .left)), durable-logged (lentOf (now (c .before .before .before .before .before .before .before .before .before .before .args .fixed)) (now (c .before .before .before .before .before .before .before .before .before .before .args .marks)) (now (c .before .before .before .before .before .before .before .before .before .before .args .log)) (now (c .before .before .before .before .before .before .before .before .before .before .args .stored)) (now (c .before .before .before .before .before .before .before .before .before .before .args .tables)) (now (c .before .before .before .before .before .before .before .before .before .before .args .online)) (now (c .before .before .before .before .before .before .before .before .before .before .args .pool))) (unturned _ _ (c .before .before .sound-durable .ensures) (c .before .if1 .left)) .0, durable-logged (lentOf (now (c .before .before .before .before .before .before .before .before .before .before .args .fixed)) (now (c .before .before .before .before .before .before .before .before .before .before .args .marks)) (now (c .before .before .before .before .before .before .before .before .before .before .args .log)) (now (c .before .before .before .before .before .before .before .before .before .before .args .stored)) (now (c .before .before .before .before .before .before .before .before .before .before .args .tables)) (now (c .before .before .before .before .before .before .before .before .before .before .args .online)) (now (c .before .before .before .before .before .before .before .before .before .before .args .pool))) (unturned _ _ (c .before .before .sound-durable .ensures) (c .before .if1 .left)) .1, durable-log-records (lentOf (now (c .before .before .before .before .before .before .before .before .before .before .args .fixed)) (now (c .before .before .before .before .before .before .before .before .before .before .args .marks)) (now (c .before .before .before .before .before .before .before .before .before .before .args .log)) (now (c .before .before .before .before .before .before .before .before .before .before .args .stored)) (now (c .before .before .before .before .before .before .before .before .before .before .args .tables)) (now (c .before .before .before .before .before .before .before .before .before .before .args .online)) (now (c .before .before .before .before .before .before .before .before .before .before .args .pool))) (unturned _ _ (c .before .before .sound-durable .ensures) (c .before .if1 .left)))
 
--- src/lib.rt:244:9
 returns-2 : tie.Need-returns-2
-returns-2 c = search needs
+unfolding judgeRestart
+returns-2 c = passed _ _ _ _ (turned _ _ _ (c .before .before .before .before .sound-durable .ensures) (c .before .before .before .if1 .left)) (refused _ _ _ (lt-ltb _ _ (subst₂ (λ (a b : ℕ). a < b) (c .before .before .params-of .ensures .3) (c .before .count-entering .ensures) (c .if2 .taken))))
 
--- src/lib.rt:227:1
 returns-3 : tie.Need-returns-3
-returns-3 c = search needs
+unfolding judgeRestart
+returns-3 c = passed _ _ _ _ (turned _ _ _ (c .before .before .before .before .sound-durable .ensures) (c .before .before .before .if1 .left)) (passed _ _ _ _ (le-ltb _ _ (subst₂ (λ (a b : ℕ). a ≤ b) (c .before .count-entering .ensures) (c .before .before .params-of .ensures .3) (c .if2 .left))) refl)
 
 pub judge-restart-spec : {M : Type 1} → statement M
 judge-restart-spec =

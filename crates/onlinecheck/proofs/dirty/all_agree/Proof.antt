@@ -1,63 +1,25 @@
--- `onlinecheck::dirty::all_agree` meets its contract: the pages still to come decide as all of them do.
+-- `onlinecheck::dirty::all_agree` meets its contract: from no marks, a page is marked exactly if a row is of it.
 use borrow.Author.Needs.{needs}
-use Prim.Native.Nat.{_+_, _-_, _≤_}
+use Prim.Native.Nat.{_+_}
 use denote.Ref.{now}
-use mathlib.Core.Path.{_≡_}
 use Rattle.record.specs.Part.{part}
 use Rattle.record.specs.Rows.{rows}
-use Rattle.rules.specs.Sound.{upTo}
-use Rattle.onlinecheck.specs.Online.{entryAgrees}
-use Rattle.onlinecheck.proofs.Rows.{upTo-none, upTo-fail, upTo-turn, upTo-done}
+use Rattle.onlinecheck.proofs.Marks.{marked-agree, pages-within}
 use Rattle.onlinecheck.proofs.dirty.all_agree.Statement.{statement}
 use Rattle.onlinecheck.proofs.dirty.all_agree.Tie as tie
 
-abbrev Inv-loop : tie.InvT-loop
-Inv-loop t m tables pages frames p₀ p = (p ≤ pages) × (upTo (entryAgrees (part (35 + frames) pages tables) (rows 19 m t 0)) (pages - p) p ≡ upTo (entryAgrees (part (35 + frames) pages tables) (rows 19 m t 0)) pages 0)
+mark-pages-requires : tie.Need-mark-pages-requires
+mark-pages-requires c κs =
+    let a = c .before .before .before .args in
+    (search needs, pages-within (a .pages) _ (c .before .before .before .pre .2) (c .before .before .before .pre .3))
 
-abbrev μ-loop : tie.MeasureT-loop
-μ-loop t m tables pages frames p₀ p = pages - p
+all-marked-requires : tie.Need-all-marked-requires
+all-marked-requires c κs = search needs
 
-loop-holds : tie.Need-loop-holds Inv-loop μ-loop
-loop-holds c =
-    let a = c .before .before .args in
-    (search needs, upTo-none (entryAgrees (part (35 + a .frames) (a .pages) (now (a .tables))) (rows 19 (a .m) (now (a .t)) 0)) (a .pages))
-
-agrees-requires : tie.Need-agrees-requires Inv-loop μ-loop
-agrees-requires c κs = search needs
-
-returns : tie.Need-returns Inv-loop μ-loop
+returns : tie.Need-returns
 returns c =
     let a = c .before .before .before .before .before .before .args in
-    upTo-fail (entryAgrees (part (35 + a .frames) (a .pages) (now (a .tables))) (rows 19 (a .m) (now (a .t)) 0)) (a .pages) _ _ _ (c .before .before .loop-test .taken) (c .if1 .taken) (c .before .agrees .ensures) (c .before .before .before .loop .inv .1)
-
-add-p : tie.Need-add-p Inv-loop μ-loop
-add-p c = search needs
-
-loop-less : tie.Need-loop-less Inv-loop μ-loop
-loop-less c = search needs
-
-loop-again : tie.Need-loop-again Inv-loop μ-loop
-loop-again c =
-    let a = c .before .before .before .before .before .before .args in (
-      search needs,
-      upTo-turn (entryAgrees (part (35 + a .frames) (a .pages) (now (a .tables))) (rows 19 (a .m) (now (a .t)) 0)) (a .pages) _ _ _ (c .before .before .loop-test .taken) (c .if1 .left) (c .before .agrees .ensures) (c .before .before .before .loop .inv .1),
-    )
-
-returns-2 : tie.Need-returns-2 Inv-loop μ-loop
-returns-2 c =
-    let a = c .before .before .before .before .args in
-    upTo-done (entryAgrees (part (35 + a .frames) (a .pages) (now (a .tables))) (rows 19 (a .m) (now (a .t)) 0)) (a .pages) _ _ (c .loop-test .left) (c .before .loop .inv .1)
+    marked-agree (part (35 + a .frames) (a .pages) (now (a .tables))) (rows 19 (a .m) (now (a .t)) 0) _ (a .pages) _ (c .before .before .before .before .before .before .pre .2) (c .before .before .mark-pages .ensures) (c .all-marked .ensures)
 
 pub all-agree-spec : {M : Type 1} → statement M
-all-agree-spec =
-    tie.close
-    (tie.spec
-    Inv-loop
-    μ-loop
-    loop-holds
-    agrees-requires
-    returns
-    add-p
-    loop-less
-    loop-again
-    returns-2)
+all-agree-spec = tie.close (tie.spec mark-pages-requires all-marked-requires returns)

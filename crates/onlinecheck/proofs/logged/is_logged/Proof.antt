@@ -1,6 +1,5 @@
 -- `onlinecheck::logged::is_logged` meets its contract: the row's owner and number are the ones read, and the log row is the number's.
 use borrow.Author.Needs.{needs}
-use Prim.Native.Nat.{_+_, _-_}
 use denote.Ref.{now}
 use Rattle.record.specs.Rows.{rowAt}
 use Rattle.onlinecheck.proofs.Laws.{log-free, log-before, log-row}

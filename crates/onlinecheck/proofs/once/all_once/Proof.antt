@@ -1,60 +1,19 @@
--- `onlinecheck::once::all_once` meets its contract: the rows still to come decide as all of them do.
+-- `onlinecheck::once::all_once` meets its contract: from no marks, each row free when its turn comes is no number twice.
 use borrow.Author.Needs.{needs}
-use Prim.Native.Nat.{_-_, _≤_}
 use denote.Ref.{now}
-use mathlib.Core.Path.{_≡_}
+use mathlib.Core.Path.{_∙_}
 use Rattle.record.specs.Rows.{rows}
-use Rattle.rules.specs.Sound.{pairs}
-use Rattle.onlinecheck.specs.Online.{otherNumber}
-use Rattle.onlinecheck.proofs.Rows.{pairs-none, pairs-fail, pairs-turn, pairs-done}
+use Rattle.onlinecheck.proofs.Marks.{free-once}
 use Rattle.onlinecheck.proofs.once.all_once.Statement.{statement}
 use Rattle.onlinecheck.proofs.once.all_once.Tie as tie
 
-abbrev Inv-loop : tie.InvT-loop
-Inv-loop t m i₀ i = (i ≤ m) × (pairs otherNumber (rows 19 (m - i) t i) ≡ pairs otherNumber (rows 19 m t 0))
+all-free-requires : tie.Need-all-free-requires
+all-free-requires c κs = search needs
 
-abbrev μ-loop : tie.MeasureT-loop
-μ-loop t m i₀ i = m - i
-
-loop-holds : tie.Need-loop-holds Inv-loop μ-loop
-loop-holds c = let a = c .before .args in (search needs, pairs-none otherNumber 19 (a .m) (now (a .t)))
-
-once-after-requires : tie.Need-once-after-requires Inv-loop μ-loop
-once-after-requires c κs = search needs
-
-returns : tie.Need-returns Inv-loop μ-loop
+returns : tie.Need-returns
 returns c =
-    let a = c .before .before .before .before .before .args in
-    pairs-fail otherNumber 19 (a .m) (now (a .t)) _ _ _ (c .before .before .loop-test .taken) (c .if1 .taken) (c .before .once-after .ensures) (c .before .before .before .loop .inv .1)
-
-add-i : tie.Need-add-i Inv-loop μ-loop
-add-i c = search needs
-
-loop-less : tie.Need-loop-less Inv-loop μ-loop
-loop-less c = search needs
-
-loop-again : tie.Need-loop-again Inv-loop μ-loop
-loop-again c =
-    let a = c .before .before .before .before .before .args in (
-      search needs,
-      pairs-turn otherNumber 19 (a .m) (now (a .t)) _ _ _ (c .before .before .loop-test .taken) (c .if1 .left) (c .before .once-after .ensures) (c .before .before .before .loop .inv .1),
-    )
-
-returns-2 : tie.Need-returns-2 Inv-loop μ-loop
-returns-2 c =
     let a = c .before .before .before .args in
-    pairs-done otherNumber 19 (a .m) (now (a .t)) _ _ (c .loop-test .left) (c .before .loop .inv .1)
+    c .all-free .ensures ∙ free-once (a .first) (rows 19 (a .m) (now (a .t)) 0) (c .before .before .before .pre .1)
 
 pub all-once-spec : {M : Type 1} → statement M
-all-once-spec =
-    tie.close
-    (tie.spec
-    Inv-loop
-    μ-loop
-    loop-holds
-    once-after-requires
-    returns
-    add-i
-    loop-less
-    loop-again
-    returns-2)
+all-once-spec = tie.close (tie.spec all-free-requires returns)

@@ -1,0 +1,204 @@
+-- Compact keeps the shape of the lent tables, L, n and what is fixed.
+use Prim.Native.Nat.{ℕ, _+_, _*_, _/_, _≤_, _<_}
+use native.Mathlib.Omega.{arith}
+use mathlib.Core.Path.{_≡_, refl, ap, _∙_}
+use mathlib.Core.Bool.{Bool, true, false, cond, not}
+use mathlib.Core.List.{List}
+use lib.ListN.{length, getD, take, set, length-set}
+use lib.Dec.{eqb, leb, ltb}
+use borrow.Author.Tests.{le-leb}
+use Rattle.word.specs.Word.{num}
+use Rattle.word.proofs.Laws.{length-put}
+use Rattle.record.specs.Part.{part}
+use Rattle.record.specs.Rows.{keep}
+use Rattle.record.specs.Record.{onPage, gone, greatest, applied}
+use Rattle.apply.proofs.Laws.{length-applied}
+use Rattle.table.proofs.Laws.{keep-length, length-rows}
+use Rattle.order.specs.Order.{without}
+use Rattle.order.proofs.Laws.{length-without}
+use Rattle.rules.specs.Lent.{Lent, sizeOf, pagesOf, framesOf, roomOf, lastOf, loggedOf, countOf, usedOf, stampAt, orderOf, entryAt, entryOf, entriesOf, onlineOf, inFrame, frameOf, cleanIn, pageIn, withPage, withOrder, withCount}
+use Rattle.rules.specs.Sound.{every}
+use Rattle.rules.specs.Shape.{Shaped}
+use Rattle.rules.specs.Steps.{due, foldable, fromFrame, compactedPage, compactedEntry, compactedOrder, unfolded, compacted, compactStep}
+use Rattle.compact.proofs.Kept.{num-put-below, length-part, length-with, part-set, tables-length, tables-count, tables-used, tables-order, tables-behind, every-set, every-without, length-kept-table}
+use Rattle.compact.proofs.Laws.{one-fits, entry-below}
+
+-- what is fixed, L and n
+pub fixed-compact : (s : Lent) (p : ℕ) → compacted s p .lent .durable .fixed ≡ s .durable .fixed
+unfolding compacted
+fixed-compact s p = refl
+
+pub last-compact : (s : Lent) (p : ℕ) → lastOf (compacted s p .lent) ≡ lastOf s
+unfolding compacted
+last-compact s p = num-put-below 4 4 (s .durable .marks) (stampAt p) (greatest 0 (foldable s p)) 0 (omega arith)
+
+pub logged-compact : (s : Lent) (p : ℕ) → loggedOf (compacted s p .lent) ≡ loggedOf s
+unfolding compacted
+logged-compact s p = num-put-below 4 4 (s .durable .marks) (stampAt p) (greatest 0 (foldable s p)) 8 (omega arith)
+
+-- a page in a frame and a page with records folded in are as long as a page
+page-long : (b : Bool) (n : ℕ) (x y : List ℕ) → length x ≡ n → length y ≡ n → length (cond b x y) ≡ n
+page-long true n x y h k = h
+page-long false n x y h k = k
+
+-- an entry that compact writes names a frame, or none
+clean-below : (b c : Bool) (e frames : ℕ) → 1 ≤ frames → e / 2 ≤ frames → cond b (cleanIn (frameOf e)) (cond c 0 1) / 2 ≤ frames
+clean-below true c e frames h k = omega arith
+clean-below false true e frames h k = omega arith
+clean-below false false e frames h k = omega arith
+
+-- an order with a frame freed or none
+order-length : (a b : Bool) (f : ℕ) (o : List ℕ) → length (cond a o (cond b (without f o) o)) ≤ length o
+order-length true b f o = omega arith
+order-length false true f o = length-without f o
+order-length false false f o = omega arith
+
+order-every : (g : ℕ → Bool) (a b : Bool) (f : ℕ) (o : List ℕ) → every g o ≡ true → every g (cond a o (cond b (without f o) o)) ≡ true
+order-every g true b f o h = h
+order-every g false true f o h = every-without g f o h
+order-every g false false f o h = h
+
+module _ (s : Lent) (p : ℕ) (w : Shaped s) (h : p < pagesOf s) where
+  page-length : length (compactedPage s p) ≡ sizeOf s
+  unfolding compactedPage
+  page-length =
+      let z = w .sized in
+      let f : frameOf (entryOf s p) < framesOf s = omega (arith, entry-below s p w h) in
+      page-long (fromFrame s p) (sizeOf s) (pageIn (sizeOf s) (frameOf (entryOf s p)) (s .lost .pool)) (applied (foldable s p) (pageIn (sizeOf s) p (s .durable .stored)))
+      (length-part (frameOf (entryOf s p) * sizeOf s) (sizeOf s) (s .lost .pool) (one-fits (frameOf (entryOf s p)) (framesOf s) (sizeOf s) (length (s .lost .pool)) f (z .pool)))
+      (length-applied (foldable s p) (pageIn (sizeOf s) p (s .durable .stored))
+      ∙ length-part (p * sizeOf s) (sizeOf s) (s .durable .stored) (one-fits p (pagesOf s) (sizeOf s) (length (s .durable .stored)) h (z .stored)))
+
+  stored-length : length (withPage (sizeOf s) p (s .durable .stored) (compactedPage s p)) ≡ sizeOf s * pagesOf s
+  stored-length =
+      let z = w .sized in
+      length-with (p * sizeOf s) (sizeOf s) (s .durable .stored) (compactedPage s p) (one-fits p (pagesOf s) (sizeOf s) (length (s .durable .stored)) h (z .stored)) page-length ∙ z .stored
+
+  entry-fits : leb (compactedEntry s p / 2) (framesOf s) ≡ true
+  unfolding compactedEntry
+  entry-fits =
+      let z = w .sized in
+      le-leb (compactedEntry s p / 2) (framesOf s)
+      (clean-below (fromFrame s p) (eqb (length (foldable s p)) (length (keep (onPage p) (onlineOf s)))) (entryOf s p) (framesOf s) (z .frames-least) (entry-below s p w h))
+
+  used-length : length (orderOf s) ≡ usedOf s
+  used-length = let z = w .sized in length-part 35 (usedOf s) (s .lost .tables) (omega (arith, w .used, z .tables))
+
+  order-fewer : length (compactedOrder s p) ≤ usedOf s
+  unfolding compactedOrder
+  order-fewer = omega (arith, order-length (fromFrame s p) (inFrame (entryOf s p)) (frameOf (entryOf s p)) (orderOf s), used-length)
+
+  order-names : every (λ (f : ℕ). ltb f (framesOf s)) (compactedOrder s p) ≡ true
+  unfolding compactedOrder
+  order-names = order-every (λ (f : ℕ). ltb f (framesOf s)) (fromFrame s p) (inFrame (entryOf s p)) (frameOf (entryOf s p)) (orderOf s) (w .order)
+
+  -- the tables before the order and the count are written
+  entered : List ℕ
+  entered = set (s .lost .tables) (entryAt (framesOf s) p) (compactedEntry s p)
+
+  entered-length : length entered ≡ 35 + framesOf s + pagesOf s
+  unfolding entered
+  entered-length = length-set (s .lost .tables) (entryAt (framesOf s) p) (compactedEntry s p) ∙ w .sized .tables
+
+  entered-room : 35 + framesOf s ≤ length entered
+  entered-room = omega (arith, entered-length)
+
+  entered-entries : every (λ (e : ℕ). leb (e / 2) (framesOf s)) (part (35 + framesOf s) (pagesOf s) entered) ≡ true
+  unfolding entered
+  entered-entries =
+      rw (part-set (35 + framesOf s) (pagesOf s) (s .lost .tables) p (compactedEntry s p) h)
+      (every-set (λ (e : ℕ). leb (e / 2) (framesOf s)) (entriesOf s) p (compactedEntry s p) (w .entries) entry-fits)
+
+  left-count : length (unfolded s p) ≤ countOf s
+  left-count = omega (arith, keep-length (λ (r : List ℕ). not (gone false 0 p r)) (onlineOf s), length-rows 19 (countOf s) (s .lost .online) 0)
+
+  left-small : length (unfolded s p) < 65536
+  left-small = omega (arith, left-count, w .count, w .sized .room)
+
+  written : List ℕ
+  written = withCount (length (unfolded s p)) (withOrder (framesOf s) (compactedOrder s p) entered)
+
+  written-count : num 2 written 0 ≡ length (unfolded s p)
+  unfolding written
+  written-count = tables-count (framesOf s) (length (unfolded s p)) (compactedOrder s p) entered entered-room left-small
+
+  written-used : getD written 2 0 ≡ length (compactedOrder s p)
+  unfolding written
+  written-used = tables-used (framesOf s) (length (unfolded s p)) (compactedOrder s p) entered entered-room
+
+  written-order : part 35 (getD written 2 0) written ≡ compactedOrder s p
+  unfolding written
+  written-order =
+      ap (λ (n : ℕ). part 35 n written) written-used
+      ∙ tables-order (framesOf s) (length (unfolded s p)) (compactedOrder s p) entered entered-room (omega (arith, order-fewer, w .used))
+
+  written-entries : part (35 + framesOf s) (pagesOf s) written ≡ part (35 + framesOf s) (pagesOf s) entered
+  unfolding written
+  written-entries = ap (λ (l : List ℕ). take (pagesOf s) l) (tables-behind (framesOf s) (length (unfolded s p)) (compactedOrder s p) entered entered-room)
+
+  online-length : length (s .lost .online) ≡ roomOf s * 19
+  online-length = omega (arith, w .sized .online)
+
+  pub shaped-compact : Shaped (compacted s p .lent)
+  unfolding compacted written entered
+  shaped-compact =
+      let z = w .sized in
+      record {
+        sized =
+            record {
+              fixed = z .fixed;
+              size-least = z .size-least;
+              size = z .size;
+              pages-least = z .pages-least;
+              pages = z .pages;
+              frames-least = z .frames-least;
+              frames = z .frames;
+              room = z .room;
+              span = z .span;
+              marks = length-put 4 (s .durable .marks) (stampAt p) (greatest 0 (foldable s p)) ∙ z .marks;
+              log = z .log;
+              stored = stored-length;
+              tables = tables-length (framesOf s) (length (unfolded s p)) (compactedOrder s p) entered entered-room ∙ entered-length;
+              online = length-kept-table (λ (r : List ℕ). not (gone false 0 p r)) (countOf s) (roomOf s) (s .lost .online) (w .count) online-length ∙ omega arith;
+              pool = z .pool;
+            };
+        logged = rw (num-put-below 4 4 (s .durable .marks) (stampAt p) (greatest 0 (foldable s p)) 8 (omega arith)) (w .logged);
+        count = omega (arith, written-count, left-count, w .count);
+        used = omega (arith, written-used, order-fewer, w .used);
+        entries = ap (λ (l : List ℕ). every (λ (e : ℕ). leb (e / 2) (framesOf s)) l) written-entries ∙ entered-entries;
+        order = ap (λ (l : List ℕ). every (λ (f : ℕ). ltb f (framesOf s)) l) written-order ∙ order-names;
+      }
+
+-- and so as a step
+module _ (minDel maxAge : ℕ) (s : Lent) (p : ℕ) where
+  pub fixed-step : compactStep minDel maxAge s p .lent .durable .fixed ≡ s .durable .fixed
+  unfolding compactStep
+  fixed-step = go (due s p minDel maxAge)
+    where
+      go : (b : Bool) → cond b (compacted s p) (record { lent = s; reads = 0; writes = 0; logs = 0 }) .lent .durable .fixed ≡ s .durable .fixed
+      go true = fixed-compact s p
+      go false = refl
+
+  pub last-step : lastOf (compactStep minDel maxAge s p .lent) ≡ lastOf s
+  unfolding compactStep
+  last-step = go (due s p minDel maxAge)
+    where
+      go : (b : Bool) → lastOf (cond b (compacted s p) (record { lent = s; reads = 0; writes = 0; logs = 0 }) .lent) ≡ lastOf s
+      go true = last-compact s p
+      go false = refl
+
+  pub logged-step : loggedOf (compactStep minDel maxAge s p .lent) ≡ loggedOf s
+  unfolding compactStep
+  logged-step = go (due s p minDel maxAge)
+    where
+      go : (b : Bool) → loggedOf (cond b (compacted s p) (record { lent = s; reads = 0; writes = 0; logs = 0 }) .lent) ≡ loggedOf s
+      go true = logged-compact s p
+      go false = refl
+
+  pub shaped-step : Shaped s → p < pagesOf s → Shaped (compactStep minDel maxAge s p .lent)
+  unfolding compactStep
+  shaped-step w h = go (due s p minDel maxAge)
+    where
+      go : (b : Bool) → Shaped (cond b (compacted s p) (record { lent = s; reads = 0; writes = 0; logs = 0 }) .lent)
+      go true = shaped-compact s p w h
+      go false = w

@@ -1,0 +1,2 @@
+-- What the contracts of `fetch` cite.
+pub mod Post

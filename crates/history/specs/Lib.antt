@@ -1,0 +1,5 @@
+-- Chapters of the theory of a page's history, each on those before it.
+pub mod Bytes
+pub mod Commute
+pub mod Order
+pub mod View

@@ -1,0 +1,168 @@
+// Abort: the owner's rows go; each page that had one loses its frame, and its entry is judged anew by the rows that stay.
+ghost use mathlib.Core.Path.{_≡_};
+ghost use mathlib.Core.Bool.{true, cond, _&&_};
+ghost use Prim.Native.Nat.{_+_, _*_, _≤_, _<_};
+ghost use lib.ListN.{length, getD, set};
+ghost use Rattle.record.specs.Part.{part};
+ghost use Rattle.record.specs.Rows.{rowAt, rows, keep, any, table};
+ghost use Rattle.record.specs.Record.{pageOf, onPage, ownedBy};
+ghost use Rattle.order.specs.Meant.{listOf};
+ghost use Rattle.table.specs.Stays.{stays};
+ghost use Rattle.rules.specs.Lent.{liveAt, entryAt, withOrder, withCount};
+ghost use Rattle.rules.specs.Steps.{freedOf, framesFreed, judgedAnew};
+use number::FrameNo;
+use number::PageNo;
+use order::Order;
+
+// A byte of a list, 0 past its end.
+fn byte_at(t: &[u8], i: usize) -> u8
+    ensures { λ r. ⌜ r ≡ getD (now (t .entry)) i 0 ⌝ }
+{
+    if t.len() <= i {
+        return 0;
+    }
+    t[i]
+}
+
+// Sets a byte of a list, and nothing past its end.
+fn set_byte(t: &mut [u8], i: usize, v: u8)
+    ensures { λ r. ⌜ now (t .exit) ≡ set (now (t .entry)) i v ⌝ }
+{
+    if t.len() <= i {
+        return;
+    }
+    t[i] = v;
+}
+
+// The order once a page of this entry has lost its frame.
+fn freed_order(e: u8, order: Order) -> Order
+    requires { ⌜ order .used ≤ 64 ⌝ }
+    ensures { λ r. ⌜ (listOf r ≡ freedOf e (listOf order)) × (r .used ≤ 64) ⌝ }
+{
+    let half = e / 2;
+    if half == 0 {
+        return order;
+    }
+    order.free(FrameNo(half as usize - 1))
+}
+
+// The order without the frame of row i's page, if the row is the owner's.
+fn free_row(tables: &[u8], online: &[u8], frames: usize, i: usize, owner: u8, order: Order) -> Order
+    requires { ⌜ (i * 19 + 19 ≤ length (now online)) × (frames ≤ 64) × (order .used ≤ 64) ⌝ }
+    ensures { λ r. ⌜ (listOf r ≡ cond (ownedBy owner (rowAt 19 (now (online .entry)) i)) (freedOf (getD (now (tables .entry)) (entryAt frames (pageOf (rowAt 19 (now (online .entry)) i))) 0) (listOf order)) (listOf order)) × (r .used ≤ 64) ⌝ }
+{
+    if record::owner_of(online, i) != owner {
+        return order;
+    }
+    let p = record::page_of(online, 19, i);
+    freed_order(byte_at(tables, 35 + frames + p.0), order)
+}
+
+// The order without the frames of the pages of the owner's rows.
+fn free_frames(
+    tables: &[u8],
+    online: &[u8],
+    frames: usize,
+    m: usize,
+    owner: u8,
+    order: Order,
+) -> Order
+    requires { ⌜ (m * 19 ≤ length (now online)) × (frames ≤ 64) × (order .used ≤ 64) ⌝ }
+    ensures { λ r. ⌜ (listOf r ≡ framesFreed frames (now (tables .entry)) (keep (ownedBy owner) (rows 19 m (now (online .entry)) 0)) (listOf order)) × (r .used ≤ 64) ⌝ }
+{
+    let mut o = order;
+    let mut i = 0;
+    while i < m {
+        o = free_row(tables, online, frames, i, owner, o);
+        i += 1;
+    }
+    o
+}
+
+// Whether row i stays and is on page p.
+fn stays_on(online: &[u8], i: usize, owner: u8, p: PageNo) -> bool
+    requires { ⌜ i * 19 + 19 ≤ length (now online) ⌝ }
+    ensures { λ r. ⌜ r ≡ (stays true owner 0 (rowAt 19 (now (online .entry)) i) && onPage (p .0) (rowAt 19 (now (online .entry)) i)) ⌝ }
+{
+    let q = record::page_of(online, 19, i);
+    (record::owner_of(online, i) != owner) & (q.0 == p.0)
+}
+
+// Whether a row that stays is on page p.
+fn remains(online: &[u8], m: usize, owner: u8, p: PageNo) -> bool
+    requires { ⌜ m * 19 ≤ length (now online) ⌝ }
+    ensures { λ r. ⌜ r ≡ any (onPage (p .0)) (keep (stays true owner 0) (rows 19 m (now (online .entry)) 0)) ⌝ }
+{
+    let mut i = 0;
+    while i < m {
+        if stays_on(online, i, owner, PageNo(p.0)) {
+            return true;
+        }
+        i += 1;
+    }
+    false
+}
+
+// The entry of a page without a frame: evicted if rows remain, else absent.
+fn entry_anew(online: &[u8], m: usize, owner: u8, p: PageNo) -> u8
+    requires { ⌜ m * 19 ≤ length (now online) ⌝ }
+    ensures { λ r. ⌜ r ≡ cond (any (onPage (p .0)) (keep (stays true owner 0) (rows 19 m (now (online .entry)) 0))) 1 0 ⌝ }
+{
+    if remains(online, m, owner, p) { 1 } else { 0 }
+}
+
+// The entry of row i's page judged anew, if the row is the owner's.
+fn judge_row(tables: &mut [u8], online: &[u8], frames: usize, m: usize, owner: u8, i: usize)
+    requires { ⌜ (m * 19 ≤ length (now online)) × (i < m) × (frames ≤ 64) ⌝ }
+    ensures { λ r. ⌜ now (tables .exit) ≡ cond (ownedBy owner (rowAt 19 (now (online .entry)) i)) (set (now (tables .entry)) (entryAt frames (pageOf (rowAt 19 (now (online .entry)) i))) (cond (any (onPage (pageOf (rowAt 19 (now (online .entry)) i))) (keep (stays true owner 0) (rows 19 m (now (online .entry)) 0))) 1 0)) (now (tables .entry)) ⌝ }
+{
+    if record::owner_of(online, i) != owner {
+        return;
+    }
+    let p = record::page_of(online, 19, i);
+    let at = 35 + frames + p.0;
+    set_byte(tables, at, entry_anew(online, m, owner, p));
+}
+
+// The entries of the pages of the owner's rows judged anew.
+// Each of these rows has all rows looked at: marking the pages first would take one pass.
+fn judge_anew(tables: &mut [u8], online: &[u8], frames: usize, m: usize, owner: u8)
+    requires { ⌜ (m * 19 ≤ length (now online)) × (frames ≤ 64) ⌝ }
+    ensures { λ r. ⌜ now (tables .exit) ≡ judgedAnew frames (keep (stays true owner 0) (rows 19 m (now (online .entry)) 0)) (keep (ownedBy owner) (rows 19 m (now (online .entry)) 0)) (now (tables .entry)) ⌝ }
+{
+    let mut i = 0;
+    while i < m {
+        judge_row(tables, online, frames, m, owner, i);
+        i += 1;
+    }
+}
+
+// Each page of the owner's rows loses its frame, and its entry is judged anew.
+fn take_pages(tables: &mut [u8], online: &[u8], frames: usize, m: usize, owner: u8)
+    requires { ⌜ (35 + frames ≤ length (now tables)) × (getD (now tables) 2 0 ≤ frames) × (frames ≤ 64) × (m * 19 ≤ length (now online)) ⌝ }
+    ensures { λ r. ⌜ now (tables .exit) ≡ withOrder frames (framesFreed frames (now (tables .entry)) (keep (ownedBy owner) (rows 19 m (now (online .entry)) 0)) (part 35 (getD (now (tables .entry)) 2 0) (now (tables .entry)))) (judgedAnew frames (keep (stays true owner 0) (rows 19 m (now (online .entry)) 0)) (keep (ownedBy owner) (rows 19 m (now (online .entry)) 0)) (now (tables .entry))) ⌝ }
+{
+    let order = free_frames(
+        tables,
+        online,
+        frames,
+        m,
+        owner,
+        frames::load_order(tables, frames),
+    );
+    judge_anew(tables, online, frames, m, owner);
+    frames::save_order(tables, frames, order);
+}
+
+// The tables and the online rows after the abort of an owner: m online rows, of which the table holds `room`.
+pub fn abort(tables: &mut [u8], online: &mut [u8], frames: usize, m: usize, room: usize, owner: u8)
+    requires { ⌜ (35 + frames ≤ length (now tables)) × (getD (now tables) 2 0 ≤ frames) × (frames ≤ 64) × (length (now online) ≡ room * 19) × (m ≤ room) × (room ≤ 512) × (owner ≤ 32) ⌝ }
+    ensures { λ r. ⌜ (now (tables .exit) ≡ set (withCount (length (keep (stays true owner 0) (rows 19 m (now (online .entry)) 0))) (withOrder frames (framesFreed frames (now (tables .entry)) (keep (ownedBy owner) (rows 19 m (now (online .entry)) 0)) (part 35 (getD (now (tables .entry)) 2 0) (now (tables .entry)))) (judgedAnew frames (keep (stays true owner 0) (rows 19 m (now (online .entry)) 0)) (keep (ownedBy owner) (rows 19 m (now (online .entry)) 0)) (now (tables .entry))))) (liveAt owner) 0)
+        × (now (online .exit) ≡ table 19 room (keep (stays true owner 0) (rows 19 m (now (online .entry)) 0))) ⌝ }
+{
+    take_pages(tables, online, frames, m, owner);
+    let left = table::delete(online, m, room, true, owner, PageNo(0));
+    word::store(tables, 0, 2, left as u64);
+    let at = 2 + owner as usize;
+    tables[at] = 0;
+}

@@ -1,0 +1,30 @@
+// Begin a transaction.
+ghost use Rattle.rules.specs.Lent.{lentOf};
+ghost use Rattle.rules.specs.Calls.{beginCall};
+ghost use Rattle.ventarico.specs.Said.{Told};
+use rules::Reply;
+use rules::Verdict;
+
+#[no_mangle]
+pub extern "C" fn ventarico_begin(
+    fixed: &[u8],
+    marks: &[u8],
+    log: &[u8],
+    stored: &[u8],
+    tables: &mut [u8],
+    online: &[u8],
+    pool: &[u8],
+    number: u32,
+) -> Reply
+    ensures { λ r. ⌜ Told (beginCall (lentOf (now (fixed .entry)) (now (marks .entry)) (now (log .entry)) (now (stored .entry)) (now (tables .entry)) (now (online .entry)) (now (pool .entry))) number) r
+        (lentOf (now (fixed .entry)) (now (marks .entry)) (now (log .entry)) (now (stored .entry)) (now (tables .exit)) (now (online .entry)) (now (pool .entry))) ⌝ }
+{
+    let v = verdict::judge_begin(fixed, marks, log, stored, tables, online, pool, number);
+    match v {
+        Verdict::Refuse(why) => crate::answer::refused(why),
+        Verdict::Go => {
+            steps::begin::begin(marks, tables, number);
+            crate::answer::done(0, 0, 0)
+        }
+    }
+}

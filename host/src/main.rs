@@ -1,0 +1,296 @@
+//! The second program and its runs. `ventarico-host all` is what a gate runs; see `usage` for the parts.
+//!
+//! With the proved store linked (VENTARICO_ARCHIVE_DIR at build time) the runs are on it, held to the second program
+//! and to the history. Without it they are on the second program itself, held to the history.
+
+#[cfg(archive)]
+mod archive;
+mod areas;
+mod calls;
+mod cases;
+mod coverage;
+mod damage;
+mod history;
+mod machine;
+mod pair;
+mod progress;
+mod random;
+mod record;
+mod session;
+mod sound;
+mod states;
+mod twin;
+mod wrong;
+
+use coverage::Coverage;
+use machine::Judges;
+use progress::Progress;
+use session::Profile;
+use sound::Clause;
+use std::process::ExitCode;
+use std::time::Duration;
+use twin::Twin;
+use wrong::{Fault, Wrong};
+
+#[cfg(archive)]
+use archive::Archive as Tested;
+#[cfg(not(archive))]
+use Twin as Tested;
+
+const LINKED: bool = cfg!(archive);
+
+/// Calls in a gate run.
+const CALLS: u64 = 1_000_000;
+
+/// Of these, so many to one are transaction calls of pairs.
+const PAIRS_PART: u64 = 10;
+
+fn usage() -> ExitCode {
+    eprintln!(
+        "usage: ventarico-host cases                    the named cases of document 01\n\
+         \x20      ventarico-host sessions [calls] [seed]  random sessions (default {CALLS} calls, a new seed)\n\
+         \x20      ventarico-host damage [seed]            stores that are not sound\n\
+         \x20      ventarico-host pairs [calls] [seed]     pairs of stores with the same transactions (default {})\n\
+         \x20      ventarico-host wrong [seed]             wrong stores, each of which must be caught\n\
+         \x20      ventarico-host coverage [calls] [seed]  sessions and damage, then what they have shown\n\
+         \x20      ventarico-host all [calls] [seed]       all of these",
+        CALLS / PAIRS_PART
+    );
+    ExitCode::from(2)
+}
+
+fn main() -> ExitCode {
+    let words: Vec<String> = std::env::args().skip(1).collect();
+    let Some(numbers) =
+        words.iter().skip(1).map(|word| word.replace('_', "").parse().ok()).collect::<Option<Vec<u64>>>()
+    else {
+        return usage();
+    };
+    let (calls, seed) = (numbers.first().copied().unwrap_or(CALLS), numbers.get(1).copied().unwrap_or_else(new_seed));
+    let only_seed = numbers.first().copied().unwrap_or(seed);
+    if LINKED {
+        println!("the proved store is linked: runs are on it, held to the second program and to the history");
+    } else {
+        println!("NO ARCHIVE WAS LINKED: runs are on the second program alone, held to the history");
+        println!("(build with VENTARICO_ARCHIVE_DIR naming the folder of libventarico.a to run on the proved store)");
+    }
+    let mut coverage = Coverage::new();
+    let (passed, failed) = match (words.first().map(String::as_str), numbers.len()) {
+        (Some("cases"), 0) => cases(),
+        (Some("sessions"), 0..=2) => sessions(calls, seed, &mut coverage),
+        (Some("pairs"), 0) => pairs(CALLS / PAIRS_PART, seed),
+        (Some("pairs"), 1..=2) => pairs(calls, seed),
+        (Some("damage"), 0..=1) => damage(only_seed, &mut coverage),
+        (Some("wrong"), 0..=1) => wrong(only_seed),
+        (Some("coverage"), 0..=2) => {
+            let parts = [sessions(calls, seed, &mut coverage), damage(seed, &mut coverage), covered(&coverage)];
+            sum(&parts)
+        }
+        (Some("all"), 0..=2) => {
+            let parts = [
+                cases(),
+                sessions(calls, seed, &mut coverage),
+                damage(seed, &mut coverage),
+                pairs(calls / PAIRS_PART, seed),
+                wrong(seed),
+                covered(&coverage),
+            ];
+            sum(&parts)
+        }
+        _ => return usage(),
+    };
+    println!("{passed} passed, {failed} failed");
+    ExitCode::from(u8::from(failed > 0))
+}
+
+/// From the clock: each run without a seed goes over new ground.
+fn new_seed() -> u64 {
+    let now = std::time::SystemTime::now().duration_since(std::time::UNIX_EPOCH);
+    now.map_or(1, |time| time.as_millis() as u64)
+}
+
+fn sum(parts: &[(u64, u64)]) -> (u64, u64) {
+    parts.iter().fold((0, 0), |sum, part| (sum.0 + part.0, sum.1 + part.1))
+}
+
+fn cases() -> (u64, u64) {
+    println!("\ncases");
+    let (passed, failed) = cases::run(&Tested {});
+    if failed > 0 {
+        println!("  next: its calls stand in src/cases.rs under its name; the first one that differs is named above");
+    }
+    (passed, failed)
+}
+
+/// Random sessions, seed after seed, until the calls are made or one fails.
+fn sessions(calls: u64, seed: u64, coverage: &mut Coverage) -> (u64, u64) {
+    println!("\nsessions: {calls} calls, first seed {seed}");
+    let judges = Judges { twin: LINKED, history: true, wild: false };
+    let mut progress = Progress::new("sessions");
+    let (mut made, mut passed) = (0, 0);
+    while made < calls {
+        let this = seed.wrapping_add(passed);
+        let ran = session::run(&Tested {}, judges, this, u64::MAX, coverage);
+        made += ran.calls;
+        if let Some((steps, why)) = ran.failure {
+            println!(
+                "  FAILED  session of seed {this} ({}), after {} steps: {why}",
+                Profile::of(this).name,
+                steps.len()
+            );
+            println!("  cutting it down");
+            let judges = Judges { wild: Profile::of(this).wild, ..judges };
+            let steps = machine::shrink(&Tested {}, judges, steps, Duration::from_secs(60));
+            println!("  its shortest form, {} steps:", steps.len());
+            machine::print_failing(&Tested {}, judges, &steps);
+            println!("  next: write these calls down as a case, mend, then run `sessions 1 {this}` and the gate again");
+            return (passed, 1);
+        }
+        passed += 1;
+        progress.tell(|| format!("{made} of {calls} calls, {passed} sessions, seed {this} done"));
+    }
+    let seconds = progress.seconds();
+    println!("  seeds {seed} to {}", seed.wrapping_add(passed).wrapping_sub(1));
+    println!("  {made} calls in {passed} sessions, {seconds:.1} s, {:.0} calls a second", made as f64 / seconds);
+    (passed, 0)
+}
+
+/// Random pairs of stores, seed after seed, until the transaction calls are made or one fails. Then wrong stores, each
+/// beside the second program, which the pairs must catch.
+fn pairs(calls: u64, seed: u64) -> (u64, u64) {
+    println!("\npairs: {calls} transaction calls, first seed {seed}");
+    // The linked store beside itself, beside the second program on either side; and that one beside itself.
+    let stores = |seed: u64| -> pair::Stores {
+        match seed % 4 {
+            0 => [Box::new(Twin), Box::new(Twin)],
+            1 => [Box::new(Tested {}), Box::new(Twin)],
+            2 => [Box::new(Twin), Box::new(Tested {})],
+            _ => [Box::new(Tested {}), Box::new(Tested {})],
+        }
+    };
+    let mut progress = Progress::new("pairs");
+    let mut sum = pair::Ran::default();
+    while sum.calls < calls {
+        let this = seed.wrapping_add(sum.pairs);
+        sum.add(pair::run(stores(this), this));
+        if let Some((steps, why)) = sum.failure {
+            println!("  FAILED  pair of seed {this}, after {} steps: {why}", steps.len());
+            pair::print_failing(|| stores(this), this, steps);
+            println!("  next: write these calls down as a case, mend, then run `pairs 1 {this}` and the gate again");
+            return (sum.pairs - 1, 1);
+        }
+        progress.tell(|| format!("{} of {calls} calls, {} pairs, seed {this} done", sum.calls, sum.pairs));
+    }
+    println!("  seeds {seed} to {}", seed.wrapping_add(sum.pairs).wrapping_sub(1));
+    println!(
+        "  {} transaction calls compared in {} pairs, {} of them up to a full table or log; {} losses on both, \
+         {} calls of one side's own, {:.1} s",
+        sum.calls,
+        sum.pairs,
+        sum.full,
+        sum.losses,
+        sum.own,
+        progress.seconds()
+    );
+    println!("  wrong stores beside the second program, after how many transaction calls they are caught:");
+    let (mut passed, mut failed) = (sum.pairs, 0);
+    for (fault, said) in Fault::ALL.iter().filter(|(fault, _)| pair::MUST_CATCH.contains(fault)) {
+        let caught = pair::caught(*fault, seed, 100_000);
+        let after = caught.map_or("-".to_string(), |calls| calls.to_string());
+        println!("  {}{after:>8}  {}", if caught.is_some() { "ok    " } else { "FAILED" }, said.trim());
+        if caught.is_some() {
+            passed += 1
+        } else {
+            failed += 1
+        }
+        progress.tell(|| said.trim().to_string());
+    }
+    (passed, failed)
+}
+
+fn damage(seed: u64, coverage: &mut Coverage) -> (u64, u64) {
+    println!("\ndamage");
+    damage::run(&Tested {}, seed, coverage)
+}
+
+/// Wrong stores. Each must be caught by the sessions, held to the second program; those that touch committed data
+/// must be caught by the history alone as well; and each clause left unchecked must be caught by damage.
+fn wrong(seed: u64) -> (u64, u64) {
+    /// Small faults in the data, of which gentle sessions are known to miss half.
+    const BY_HISTORY: &[Fault] = &[
+        Fault::RestartIgnoresStamp,
+        Fault::StampSmallest,
+        Fault::CompactWritesUncommitted,
+        Fault::AbortForgetsOthers,
+        Fault::AbortTakesCommitted,
+        Fault::CommitKeepsOwner,
+        Fault::CompactTakesFrameBytes,
+    ];
+    println!(
+        "\nwrong stores, seed {seed}: after how many calls each is caught, by the second program and by the history"
+    );
+    let mut progress = Progress::new("wrong stores");
+    let (mut passed, mut failed) = (0, 0);
+    for (i, (fault, said)) in Fault::ALL.iter().enumerate() {
+        let by_twin = caught(*fault, Judges { twin: true, history: false, wild: false }, seed, 400_000);
+        let by_history = caught(*fault, Judges { twin: false, history: true, wild: false }, seed, 40_000);
+        let needed = BY_HISTORY.contains(fault);
+        let ok = by_twin.is_some() && (by_history.is_some() || !needed);
+        let after = |calls: Option<u64>| calls.map_or("-".to_string(), |calls| calls.to_string());
+        println!(
+            "  {}{:>8}{:>8}  {}",
+            if ok { "ok    " } else { "FAILED" },
+            after(by_twin),
+            after(by_history),
+            said.trim()
+        );
+        if ok {
+            passed += 1
+        } else {
+            failed += 1
+        }
+        progress.tell(|| format!("{} of {}", i + 1, Fault::ALL.len()));
+    }
+    println!("  clauses left unchecked, caught by damage:");
+    for (clause, label) in Clause::ALL {
+        let ok = damage::catches(&Wrong::new(Fault::Unchecked(clause)), clause, seed);
+        println!("  {}  {label}", if ok { "ok    " } else { "FAILED" });
+        if ok {
+            passed += 1
+        } else {
+            failed += 1
+        }
+        progress.tell(|| label.to_string());
+    }
+    if failed > 0 {
+        println!(
+            "  next: a wrong store that is not caught means that the sessions or the wounds are too gentle: mend those"
+        );
+    }
+    (passed, failed)
+}
+
+/// After how many calls the sessions catch the fault, if they do.
+fn caught(fault: Fault, judges: Judges, seed: u64, most: u64) -> Option<u64> {
+    let mut coverage = Coverage::off();
+    let (mut made, mut seed) = (0, seed);
+    while made < most {
+        // The largest stores take long and add nothing here.
+        if Profile::of(seed).stored_bytes() <= 1 << 20 {
+            let ran = session::run(&Wrong::new(fault), judges, seed, u64::MAX, &mut coverage);
+            made += ran.calls;
+            if ran.failure.is_some() {
+                return Some(made);
+            }
+        }
+        seed = seed.wrapping_add(1);
+    }
+    None
+}
+
+fn covered(coverage: &Coverage) -> (u64, u64) {
+    println!("\ncoverage");
+    let wrong = coverage.print();
+    wrong.iter().for_each(|line| println!("  FAILED  {line}"));
+    (u64::from(wrong.is_empty()), wrong.len() as u64)
+}
