@@ -97,10 +97,26 @@ static void the_last_number_is_given_and_no_more(void)
     CLERK_COMMIT(&d, 0, 32, 0);
 }
 
+/* The header: with any values, and live where the byte is 1. */
+static void a_byte_other_than_1_is_not_live(void)
+{
+    static const uint8_t others[] = {0, 2, 3, 128, 255};
+    for (size_t i = 0; i < sizeof others; i++) {
+        story("clerk: a live byte of %u", others[i]);
+        struct desk d = desk_of(7);
+        d.clerk.live[8] = d.want.live[8] = others[i];
+        CLERK_ABORT(&d, 4, 9);
+        CLERK_COMMIT(&d, 4, 9, 1);
+        d.want.live[8] = 1;
+        CLERK_BEGIN(&d, 0, 9);
+        CLERK_BEGIN(&d, 5, 9);
+    }
+}
+
 void clerk(void)
 {
     bad_numbers_are_refused();
     each_number_begins_once_and_ends();
     the_last_number_is_given_and_no_more();
+    a_byte_other_than_1_is_not_live();
 }
-

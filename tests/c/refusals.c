@@ -3,6 +3,13 @@
 #include "sample.h"
 #include "topics.h"
 
+/* 01's numbers, as the header has them. */
+_Static_assert(VENTARICO_DONE == 0 && VENTARICO_NOT_SOUND == 1 && VENTARICO_BAD_ARGUMENT == 2 &&
+    VENTARICO_SHORT_BUFFER == 3 && VENTARICO_NOT_LIVE == 4 && VENTARICO_LIVE == 5 && VENTARICO_HELD == 6 &&
+    VENTARICO_ONLINE_FULL == 7 && VENTARICO_LOG_FULL == 8 && VENTARICO_NUMBERS_END == 9 && VENTARICO_NO_FRAME == 10,
+    "refusals");
+_Static_assert(VENTARICO_SET == 0 && VENTARICO_ADD == 1, "kinds");
+
 /* Numbers that are not 1 to 32; the last two are if cut to a byte or to two. */
 static const uint32_t no_numbers[] = {0, 33, END, 256 + 1, 65536 + 1};
 /* Pages that are not below 8; the last two are if cut to a byte or to two. */
@@ -271,11 +278,14 @@ static void restart_refuses_what_the_online_table_cannot_hold(void)
         want_dirty(&s, 3, 15);
         settle(&s);
         power_loss(&s);
-        if (online < 6) {
-            RESTART(&s, refused(7));
-        } else {
+        if (online == 6) {
             want_sample_restarted(&s);
             RESTART(&s, DONE);
+        } else {
+            RESTART(&s, refused(7));
+            want_kay(&s, 21);
+            settle(&s);
+            RESTART(&s, refused(1));
         }
         store_free(&s);
     }

@@ -412,6 +412,39 @@ static void checkpoint_compacts_what_is_due_and_closes(struct store *s)
     CHECKPOINT(s, done(0, 0, 1), 2, 3);
 }
 
+/* The same in single calls: what a power loss inside the checkpoint leaves is the durable part between two of these. */
+static void checkpoint_is_compact_for_each_page_then_close(struct store *s)
+{
+    COMPACT(s, not_due(), 0, 2, 3);
+    COMPACT(s, not_due(), 1, 2, 3);
+    want_written(s, 2, 0);
+    want_stamp(s, 2, 20);
+    want_entry(s, 2, CLEAN(0));
+    WANT_ROWS_WITHOUT(s, 3, 9);
+    COMPACT(s, done(0, 1, 0), 2, 2, 3);
+    want_stored(s, 3, 8, 4, 0x00003132);
+    want_stamp(s, 3, 19);
+    want_entry(s, 3, ABSENT);
+    WANT_ROWS_WITHOUT(s, 0, 3, 8, 9);
+    COMPACT(s, done(1, 1, 0), 3, 2, 3);
+    want_stored(s, 4, 32, 2, 0x4142);
+    want_stamp(s, 4, 17);
+    want_entry(s, 4, EVICTED);
+    WANT_ORDER(s, 3, 0, 1);
+    WANT_ROWS_WITHOUT(s, 0, 2, 3, 8, 9);
+    COMPACT(s, done(1, 1, 0), 4, 2, 3);
+    COMPACT(s, not_due(), 5, 2, 3);
+    COMPACT(s, not_due(), 6, 2, 3);
+    COMPACT(s, not_due(), 7, 2, 3);
+    want_kay(s, 20);
+    want_dirty(s, 1, 0);
+    want_dirty(s, 2, 0);
+    want_dirty(s, 3, 0);
+    want_dirty(s, 5, 18);
+    want_log(s, 3, sample_log + 4);
+    CLOSE(s, done(0, 0, 1));
+}
+
 static void checkpoint_with_nothing_due_is_a_close(struct store *s)
 {
     want_kay(s, 20);
@@ -547,6 +580,7 @@ void steps(void)
         TEST(close_looks_at_numbers_not_at_places),
         TEST(close_drops_the_whole_log_if_nothing_committed_is_online),
         TEST(checkpoint_compacts_what_is_due_and_closes),
+        TEST(checkpoint_is_compact_for_each_page_then_close),
         TEST(checkpoint_with_nothing_due_is_a_close),
         TEST(restart_makes_the_lost_part_of_the_log),
         TEST(restart_passes_over_what_close_left_out),

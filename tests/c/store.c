@@ -95,7 +95,7 @@ static void *allocate(size_t length)
     return block;
 }
 
-/* The front guard is 64 bytes and `shift` more, so that no area begins where a wide number would. */
+/* The front guard is 64 bytes and `shift` more: nothing is promised about where an area begins. */
 static struct lent lend(size_t length, size_t shift)
 {
     struct lent lent = {.front = GUARD + shift, .length = length};
@@ -523,7 +523,7 @@ static void judge_area(struct store *s, const char *call, enum area area, bool a
     char name[64] = "";
     if (wrong > 0)
         name_byte(s, area, at, name, sizeof name);
-    check_at(call_file, call_line, wrong == 0, "%s: %s%s, byte %zu (%s): expected %u, got %u; %zu bytes are wrong",
+    check_at(call_file, call_line, wrong == 0, "%s: %s%s, byte %zu (%s): expected %u, got %u (wrong bytes: %zu)",
         call, accepted ? "" : "refused, yet it changed ", area_names[area], at, name, wrong > 0 ? right[at] : 0,
         wrong > 0 ? got[at] : 0, wrong);
     check_at(call_file, call_line, guards_hold(&s->lent[area]), "%s: wrote beside %s", call, area_names[area]);

@@ -27,7 +27,6 @@ void checks_begin(void);
 /* Prints the sum. Gives the exit status. */
 int checks_end(void);
 
-#define CHECK(holds, ...) check_at(__FILE__, __LINE__, holds, __VA_ARGS__)
 #define SAME(what, got, right) same_at(__FILE__, __LINE__, what, got, right)
 void same_at(const char *file, int line, const char *what, uint64_t got, uint64_t right);
 
