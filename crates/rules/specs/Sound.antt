@@ -145,7 +145,15 @@ s15-stamps s = leb (closedOf s) (lastOf s) && upTo (λ (p : ℕ). leb (stampOf s
 unfoldable pub s16-logged : Lent → Bool
 s16-logged s = leb (loggedOf s) (lastOf s)
 
--- S17 "each nonzero dirty number is at most K", S19 "the log's first number … at most each nonzero dirty number"
+-- S17 "each nonzero dirty number is at most K"
+unfoldable pub s17-dirty : Lent → Bool
+s17-dirty s = upTo (λ (p : ℕ). eqb (dirtyOf s p) 0 || leb (dirtyOf s p) (closedOf s)) (pagesOf s) 0
+
+-- S19 "the log's first number … at most each nonzero dirty number"
+unfoldable pub s19-first : Lent → Bool
+s19-first s = upTo (λ (p : ℕ). eqb (dirtyOf s p) 0 || leb (firstOf s) (dirtyOf s p)) (pagesOf s) 0
+
+-- S17 and S19 in one walk of the dirty table: `both-dirty` (rules, proofs/Clauses.antt) says that it is the two
 unfoldable pub s17-s19-dirty : Lent → Bool
 s17-s19-dirty s = upTo (λ (p : ℕ). eqb (dirtyOf s p) 0 || between (firstOf s) (dirtyOf s p) (closedOf s)) (pagesOf s) 0
 
