@@ -1,5 +1,3 @@
--- Chapters of the theory of a page's history, each on those before it.
-pub mod Bytes
-pub mod Commute
-pub mod Order
-pub mod View
+-- What a reader of the theorem must believe: the history that calls and answers tell, and how a store comes by its bytes.
+pub mod Past
+pub mod Run

@@ -11,7 +11,7 @@ use Rattle.record.specs.Record.{pageOf, offsetOf, lengthOf, apply, applied, onP
 use Rattle.apply.proofs.Laws.{applied-keep}
 use Rattle.rules.specs.Sound.{every, pairs}
 use Rattle.onlinecheck.proofs.Rows.{and-both, every-imp}
-use Rattle.history.specs.Commute.{apply-commutes}
+use Rattle.redo.proofs.Commute.{apply-commutes}
 
 -- two records that may be applied in either order: on different pages, or on one with no byte in common
 unfoldable pub free : List ℕ → List ℕ → Bool

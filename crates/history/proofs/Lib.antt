@@ -1,0 +1,2 @@
+-- The book, a chapter a file.
+pub mod Right

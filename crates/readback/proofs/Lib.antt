@@ -1,0 +1,2 @@
+-- What the lent bytes say after each step.
+pub mod Seen

@@ -1,0 +1,38 @@
+-- What the lost areas say, as lists: S2, S3 and S14 of "Sound tables" for them, and the use order, live bytes, entries and online rows that are read there.
+use Prim.Native.Nat.{ℕ, _+_, _*_, _-_, _≤_}
+use mathlib.Core.Path.{_≡_}
+use mathlib.Core.Bool.{true}
+use mathlib.Core.List.{List}
+use lib.ListN.{length, drop}
+use Rattle.record.specs.Part.{part}
+use Rattle.table.proofs.Laws.{Wide}
+use Rattle.rules.specs.Lent.{Lent, sizeOf, pagesOf, framesOf, roomOf, countOf, usedOf, orderOf, entriesOf, onlineOf}
+use Rattle.rules.specs.Sound.{zeros}
+
+-- the live bytes of the numbers 1 to 32
+abbrev pub livesOf : Lent → List ℕ
+livesOf s = part 3 32 (s .lost .tables)
+
+-- the lengths of the lost areas
+pub record Areas (s : Lent) : Type 0 where
+  pub tables : length (s .lost .tables) ≡ 35 + framesOf s + pagesOf s
+  pub online : length (s .lost .online) ≡ 19 * roomOf s
+  pub pool : length (s .lost .pool) ≡ sizeOf s * framesOf s
+
+pub record Reads (s : Lent) (order lives entries : List ℕ) (online : List (List ℕ)) : Type 0 where
+  pub areas : Areas s
+  pub count : countOf s ≡ length online
+  pub room : length online ≤ roomOf s
+  pub used : usedOf s ≡ length order
+  pub frames : length order ≤ framesOf s
+  pub order-read : orderOf s ≡ order
+  pub order-zero : zeros (part (35 + length order) (framesOf s - length order) (s .lost .tables)) ≡ true
+  pub lives-read : livesOf s ≡ lives
+  pub entries-read : entriesOf s ≡ entries
+  pub online-read : onlineOf s ≡ online
+  pub online-zero : zeros (drop (length online * 19) (s .lost .online)) ≡ true
+  pub wide : Wide 19 online
+
+-- what is read is what is read
+abbrev pub Whole : Lent → Type 0
+Whole s = Reads s (orderOf s) (livesOf s) (entriesOf s) (onlineOf s)

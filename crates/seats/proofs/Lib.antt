@@ -1,0 +1,2 @@
+-- Frames, page entries and the use order.
+pub mod Seated
