@@ -155,7 +155,7 @@ module _ (page offset w kind v owner : ℕ) where
   length-z₄ : length z₄ ≡ 19
   length-z₄ = length-set z₃ 5 kind ∙ length-set z₂ 4 w ∙ length-z₂
 
-  -- a byte that no field before the value covers, one that none of them covers
+  -- the bytes but the owner; those of page and offset; those behind the owner
   last-byte : (i : ℕ) → (i ≡ 14 → ⊥) → getD (rowOf page offset w kind v owner) i 0 ≡ getD z₅ i 0
   unfolding rowOf
   last-byte i n = getD-set-other z₅ 14 i owner 0 n
