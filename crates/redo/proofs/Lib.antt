@@ -4,3 +4,4 @@ pub mod Commute
 pub mod Order
 pub mod View
 pub mod Loose
+pub mod Views
