@@ -5,3 +5,4 @@ pub mod Order
 pub mod View
 pub mod Loose
 pub mod Views
+pub mod Reader
