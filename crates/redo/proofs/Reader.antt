@@ -3,9 +3,9 @@
 use Prim.Native.Nat.{ℕ, _+_, _≤_, _<_}
 use native.Mathlib.Omega.{arith}
 use mathlib.Core.Path.{_≡_, refl, sym, ap, _∙_}
-use mathlib.Core.Bool.{Bool, true, false, not, _&&_, _||_}
-use mathlib.Core.List.{List, [], _∷_, _++_, append-nil}
-use lib.ListN.{length, getD, take, drop}
+use mathlib.Core.Bool.{Bool, true, false, not, _&&_, _||_, and-true, and-false}
+use mathlib.Core.List.{List, [], _∷_, _++_}
+use lib.ListN.{length, getD, drop}
 use lib.Seq.{ext-getD, getD-take, getD-drop}
 use lib.Dec.{eqb, ltb}
 use borrow.Author.Tests.{eqb-true, eqb-false, ne-eqb, not-true}
@@ -15,13 +15,13 @@ use Rattle.record.specs.Record.{pageOf, offsetOf, lengthOf, kindOf, valueOf, ow
 use Rattle.apply.proofs.Laws.{length-applied}
 use Rattle.rules.specs.Sound.{every, pairs, apart}
 use Rattle.rules.specs.Calls.{clashes}
-use Rattle.onlinecheck.proofs.Rows.{and-both}
+use Rattle.onlinecheck.proofs.Rows.{and-both, every-imp}
 use Rattle.compact.proofs.Kept.{length-part}
 use Rattle.redo.proofs.Bytes.{Agree, change-outside}
 use Rattle.redo.proofs.Commute.{Disjoint, ranges, disjoint-outside}
-use Rattle.redo.proofs.Order.{_≈_, free, parts, ≈-picked, ≈-page, stable-partition}
+use Rattle.redo.proofs.Order.{_≈_, free, parts, ≈-picked, stable-partition}
 use Rattle.redo.proofs.View.{applied-append, keep-append}
-use Rattle.redo.proofs.Views.{keep-keep, keep-both, keep-same-where, keep-none}
+use Rattle.redo.proofs.Views.{keep-both, keep-same-where, keep-none}
 
 -- two tests that all pass imply a third
 pub every-both : (b c d : List ℕ → Bool) → ((r : List ℕ) → b r ≡ true → c r ≡ true → d r ≡ true) → (l : List (List ℕ)) → every b l ≡ true → every c l ≡ true → every d l ≡ true
@@ -121,3 +121,90 @@ apart-parts x o h k = pairs-where (λ (r : List ℕ). not (committed r)) apart (
         go false false false true u v y z f =
             let n : eqb (ownerOf a) (ownerOf b) ≡ false = ne-eqb (ownerOf a) (ownerOf b) (λ m. eqb-false (ownerOf a) x u (m ∙ eqb-true (ownerOf b) x v)) in
             rw n at f
+
+-- a list of records in two parts: the page sees one, then the other
+pub two-parts : (p : ℕ) (c : List ℕ → Bool) → ((r : List ℕ) → c r ≡ true → pageOf r ≡ p) → (l k m : List (List ℕ)) → l ≈ k ++ m → (g : List ℕ) → applied (keep c l) g ≡ applied (keep c m) (applied (keep c k) g)
+two-parts p c on l k m e g = ≈-picked p c on e g ∙ ap (λ (z : List (List ℕ)). applied z g) (keep-append c k m) ∙ applied-append (keep c k) (keep c m) g
+
+-- online are the committed records above a test, then the uncommitted: what a page makes of them
+pub online-view : (p : ℕ) (above : List ℕ → Bool) (online rows o : List (List ℕ)) → online ≈ keep above rows ++ o → (g : List ℕ) → applied (keep (onPage p) online) g ≡ applied (keep (onPage p) o) (applied (keep (onPage p) (keep above rows)) g)
+online-view p above online rows o e g = two-parts p (onPage p) (λ r h. eqb-true (pageOf r) p h) online (keep above rows) o e g
+
+-- a page with uncommitted records is the page with one owner's, then with the others'
+pub own-first : (x p : ℕ) (o : List (List ℕ)) → every (λ (r : List ℕ). not (committed r)) o ≡ true → pairs apart o ≡ true → (g : List ℕ) → applied (keep (onPage p) o) g ≡ applied (keep (λ (r : List ℕ). onPage p r && not (ownedBy x r)) o) (applied (keep (λ (r : List ℕ). onPage p r && ownedBy x r) o) g)
+own-first x p o h k g =
+    two-parts p (onPage p) (λ r e. eqb-true (pageOf r) p e) o (keep (ownedBy x) o) (keep (λ (r : List ℕ). not (ownedBy x r)) o) (stable-partition (ownedBy x) o (apart-parts x o h k)) g
+    ∙ ap (λ (z : List (List ℕ)). applied z (applied (keep (onPage p) (keep (ownedBy x) o)) g)) (keep-both (onPage p) (λ (r : List ℕ). not (ownedBy x r)) o)
+    ∙ ap (λ (z : List (List ℕ)). applied (keep (λ (r : List ℕ). onPage p r && not (ownedBy x r)) o) (applied z g)) (keep-both (onPage p) (ownedBy x) o)
+
+-- a reader that is not refused for held bytes sees in them its own updates alone
+pub own-bytes : (x p offset w : ℕ) (o : List (List ℕ)) → every (λ (r : List ℕ). not (committed r)) o ≡ true → pairs apart o ≡ true → any (clashes x p offset w) o ≡ false → (g : List ℕ) → offset + w ≤ length g → part offset w (applied (keep (onPage p) o) g) ≡ part offset w (applied (keep (λ (r : List ℕ). onPage p r && ownedBy x r) o) g)
+own-bytes x p offset w o h k n g m =
+    ap (λ (z : List ℕ). part offset w z) (own-first x p o h k g)
+    ∙ part-agree offset w (applied others mine) mine (length-applied others mine) room (applied-misses offset w others mine clear)
+  where
+    own : List (List ℕ)
+    own = keep (λ (r : List ℕ). onPage p r && ownedBy x r) o
+
+    others : List (List ℕ)
+    others = keep (λ (r : List ℕ). onPage p r && not (ownedBy x r)) o
+
+    mine : List ℕ
+    mine = applied own g
+
+    room : offset + w ≤ length (applied others mine)
+    room = omega (arith, length-applied others mine, length-applied own g)
+
+    free-to-read : List ℕ → Bool
+    free-to-read r = not (committed r) && not (clashes x p offset w r)
+
+    clear : every (misses offset w) others ≡ true
+    clear =
+        every-keep (λ (r : List ℕ). onPage p r && not (ownedBy x r)) free-to-read (misses offset w)
+        (λ r a b. let s : (not (committed r) ≡ true) × (not (clashes x p offset w r) ≡ true) = and-both (not (committed r)) (not (clashes x p offset w r)) b in clear-misses x p offset w r a (s .0) (s .1))
+        o
+        (every-both (λ (r : List ℕ). not (committed r)) (λ (r : List ℕ). not (clashes x p offset w r)) free-to-read (λ r a b. rw (a, b)) o h (none-each (clashes x p offset w) o n))
+
+-- what the history shows a reader, in the bytes that it asks for: the committed updates, then all the uncommitted
+pub shown-bytes : (x p offset w : ℕ) (made rows o : List (List ℕ)) → made ≈ rows ++ o → every committed rows ≡ true → every (λ (r : List ℕ). not (committed r)) o ≡ true → pairs apart o ≡ true → any (clashes x p offset w) o ≡ false → (g : List ℕ) → offset + w ≤ length g
+    → part offset w (applied (keep (λ (r : List ℕ). onPage p r && (committed r || ownedBy x r)) made) g) ≡ part offset w (applied (keep (onPage p) o) (applied (keep (onPage p) rows) g))
+shown-bytes x p offset w made rows o e c h k n g m =
+    ap (λ (z : List ℕ). part offset w z)
+    (two-parts p sees (λ r q. eqb-true (pageOf r) p (and-both (onPage p r) (committed r || ownedBy x r) q .0)) made rows o e g
+    ∙ ap (λ (z : List (List ℕ)). applied (keep sees o) (applied z g)) (keep-same-where committed sees (onPage p) (λ r q. all r (committed r) q) rows c)
+    ∙ ap (λ (z : List (List ℕ)). applied z page) (keep-same-where (λ (r : List ℕ). not (committed r)) sees (λ (r : List ℕ). onPage p r && ownedBy x r) (λ r q. own r (committed r) q) o h))
+    ∙ sym (own-bytes x p offset w o h k n page (omega (arith, length-applied (keep (onPage p) rows) g)))
+  where
+    sees : List ℕ → Bool
+    sees r = onPage p r && (committed r || ownedBy x r)
+
+    page : List ℕ
+    page = applied (keep (onPage p) rows) g
+
+    all : (r : List ℕ) (t : Bool) → t ≡ true → (onPage p r && (t || ownedBy x r)) ≡ onPage p r
+    all r true q = and-true (onPage p r)
+    all r false q = let z : _≡_ {A = ℕ} 0 1 = cc in absurd (omega arith)
+
+    own : (r : List ℕ) (t : Bool) → not t ≡ true → (onPage p r && (t || ownedBy x r)) ≡ (onPage p r && ownedBy x r)
+    own r false q = refl
+    own r true q = let z : _≡_ {A = ℕ} 0 1 = cc in absurd (omega arith)
+
+-- what a stored page has: of all that was made, the committed records that pass a test
+pub stored-view : (p : ℕ) (t : List ℕ → Bool) (made rows o : List (List ℕ)) → made ≈ rows ++ o → every committed rows ≡ true → every (λ (r : List ℕ). not (committed r)) o ≡ true → (g : List ℕ)
+    → applied (keep (λ (r : List ℕ). committedOn p r && t r) made) g ≡ applied (keep (λ (r : List ℕ). onPage p r && t r) rows) g
+unfolding applied
+stored-view p t made rows o e c h g =
+    two-parts p has (λ r q. eqb-true (pageOf r) p (and-both (onPage p r) (committed r) (and-both (committedOn p r) (t r) q .0) .0)) made rows o e g
+    ∙ ap (λ (z : List (List ℕ)). applied z (applied (keep has rows) g)) (keep-none has o (every-imp (λ (r : List ℕ). not (committed r)) (λ (r : List ℕ). not (has r)) (λ r q. none r (committed r) q) o h))
+    ∙ ap (λ (z : List (List ℕ)). applied z g) (keep-same-where committed has (λ (r : List ℕ). onPage p r && t r) (λ r q. all r (committed r) q) rows c)
+  where
+    has : List ℕ → Bool
+    has r = committedOn p r && t r
+
+    none : (r : List ℕ) (b : Bool) → not b ≡ true → not (onPage p r && b && t r) ≡ true
+    none r false q = ap (λ (z : Bool). not (z && t r)) (and-false (onPage p r))
+    none r true q = let z : _≡_ {A = ℕ} 0 1 = cc in absurd (omega arith)
+
+    all : (r : List ℕ) (b : Bool) → b ≡ true → (onPage p r && b && t r) ≡ (onPage p r && t r)
+    all r true q = ap (λ (z : Bool). z && t r) (and-true (onPage p r))
+    all r false q = let z : _≡_ {A = ℕ} 0 1 = cc in absurd (omega arith)
