@@ -7,21 +7,23 @@ use mathlib.Core.Bool.{Bool, true, false, not, _&&_, _||_, and-true, and-false}
 use mathlib.Core.List.{List, [], _∷_, _++_}
 use lib.ListN.{length, getD, drop}
 use lib.Seq.{ext-getD, getD-take, getD-drop}
-use lib.Dec.{eqb, ltb}
+use lib.Dec.{eqb, leb, ltb}
 use borrow.Author.Tests.{eqb-true, eqb-false, ne-eqb, not-true}
+use Rattle.word.specs.Word.{num}
 use Rattle.record.specs.Part.{part}
 use Rattle.record.specs.Rows.{keep, consIf, any}
-use Rattle.record.specs.Record.{pageOf, offsetOf, lengthOf, kindOf, valueOf, ownerOf, committed, apply, applied, onPage, committedOn, ownedBy, shareByte}
+use Rattle.record.specs.Record.{pageOf, offsetOf, lengthOf, kindOf, valueOf, ownerOf, numberOf, committed, apply, applied, onPage, committedOn, ownedBy, shareByte}
 use Rattle.apply.proofs.Laws.{length-applied}
+use Rattle.rules.specs.Lent.{stampAt}
 use Rattle.rules.specs.Sound.{every, pairs, apart}
 use Rattle.rules.specs.Calls.{clashes}
 use Rattle.onlinecheck.proofs.Rows.{and-both, every-imp}
 use Rattle.compact.proofs.Kept.{length-part}
 use Rattle.redo.proofs.Bytes.{Agree, change-outside}
 use Rattle.redo.proofs.Commute.{Disjoint, ranges, disjoint-outside}
-use Rattle.redo.proofs.Order.{_≈_, free, parts, ≈-picked, stable-partition}
+use Rattle.redo.proofs.Order.{_≈_, as-is, swap, behind, both, free, parts, ≈-picked, stable-partition}
 use Rattle.redo.proofs.View.{applied-append, keep-append}
-use Rattle.redo.proofs.Views.{keep-both, keep-same-where, keep-none}
+use Rattle.redo.proofs.Views.{keep-same, keep-both, keep-same-where, keep-none, rising, page-up-to, stored-then-online}
 
 -- two tests that all pass imply a third
 pub every-both : (b c d : List ℕ → Bool) → ((r : List ℕ) → b r ≡ true → c r ≡ true → d r ≡ true) → (l : List (List ℕ)) → every b l ≡ true → every c l ≡ true → every d l ≡ true
@@ -208,3 +210,54 @@ stored-view p t made rows o e c h g =
     all : (r : List ℕ) (b : Bool) → b ≡ true → (onPage p r && b && t r) ≡ (onPage p r && t r)
     all r true q = ap (λ (z : Bool). z && t r) (and-true (onPage p r))
     all r false q = let z : _≡_ {A = ℕ} 0 1 = cc in absurd (omega arith)
+
+-- no swap hides a record: whether any passes a test
+pub ≈-any : (b : List ℕ → Bool) {l m : List (List ℕ)} → l ≈ m → any b l ≡ any b m
+unfolding any
+≈-any b as-is = refl
+≈-any b (swap a c l h) = turn (b a) (b c) (any b l)
+  where
+    turn : (s t u : Bool) → (s || (t || u)) ≡ (t || (s || u))
+    turn true true u = refl
+    turn true false u = refl
+    turn false t u = refl
+≈-any b (behind a e) = ap (λ (t : Bool). b a || t) (≈-any b e)
+≈-any b (both e f) = ≈-any b e ∙ ≈-any b f
+
+-- where none of two lists passes, none of the second does
+pub none-after : (b : List ℕ → Bool) (k l : List (List ℕ)) → any b (k ++ l) ≡ false → any b l ≡ false
+unfolding any
+none-after b [] l h = h
+none-after b (r ∷ k) l h = none-after b k l (pick (b r) h)
+  where
+    pick : (t : Bool) → (t || any b (k ++ l)) ≡ false → any b (k ++ l) ≡ false
+    pick true e = let z : _≡_ {A = ℕ} 0 1 = cc in absurd (omega arith)
+    pick false e = e
+
+-- the whole: a stored page, which has the committed updates up to its stamp, with the online records of the page, is to a reader what the history shows it
+pub read-bytes : (x p offset w : ℕ) (marks : List ℕ) (made online rows o : List (List ℕ)) → made ≈ rows ++ o → online ≈ keep (λ (r : List ℕ). ltb (num 4 marks (stampAt (pageOf r))) (numberOf r)) rows ++ o
+    → pairs rising rows ≡ true → every committed rows ≡ true → every (λ (r : List ℕ). not (committed r)) o ≡ true → pairs apart o ≡ true → any (clashes x p offset w) online ≡ false
+    → (g stored : List ℕ) → stored ≡ applied (keep (λ (r : List ℕ). onPage p r && not (ltb (num 4 marks (stampAt (pageOf r))) (numberOf r))) rows) g → offset + w ≤ length g
+    → part offset w (applied (keep (onPage p) online) stored) ≡ part offset w (applied (keep (λ (r : List ℕ). onPage p r && (committed r || ownedBy x r)) made) g)
+read-bytes x p offset w marks made online rows o e f u c h k n g stored s m =
+    ap (λ (z : List ℕ). part offset w z)
+    (ap (λ (z : List ℕ). applied (keep (onPage p) online) z) s
+    ∙ online-view p above online rows o f (applied (keep (λ (r : List ℕ). onPage p r && not (above r)) rows) g)
+    ∙ ap (λ (z : List ℕ). applied (keep (onPage p) o) z) (stored-then-online marks p rows g u))
+    ∙ sym (shown-bytes x p offset w made rows o e c h k clear g m)
+  where
+    above : List ℕ → Bool
+    above r = ltb (num 4 marks (stampAt (pageOf r))) (numberOf r)
+
+    clear : any (clashes x p offset w) o ≡ false
+    clear = none-after (clashes x p offset w) (keep above rows) o (sym (≈-any (clashes x p offset w) f) ∙ n)
+
+-- and a stored page with the committed updates not above the stamp is what the history stores up to that stamp
+pub stored-up-to : (p : ℕ) (marks : List ℕ) (made rows o : List (List ℕ)) → made ≈ rows ++ o → every committed rows ≡ true → every (λ (r : List ℕ). not (committed r)) o ≡ true → (g : List ℕ)
+    → applied (keep (λ (r : List ℕ). onPage p r && not (ltb (num 4 marks (stampAt (pageOf r))) (numberOf r))) rows) g ≡ applied (keep (λ (r : List ℕ). committedOn p r && leb (numberOf r) (num 4 marks (stampAt p))) made) g
+stored-up-to p marks made rows o e c h g =
+    ap (λ (z : List (List ℕ)). applied z g) (keep-same (λ (r : List ℕ). onPage p r && not (ltb (num 4 marks (stampAt (pageOf r))) (numberOf r))) (λ (r : List ℕ). onPage p r && upTo r) (page-up-to marks p) rows)
+    ∙ sym (stored-view p upTo made rows o e c h g)
+  where
+    upTo : List ℕ → Bool
+    upTo r = leb (numberOf r) (num 4 marks (stampAt p))
