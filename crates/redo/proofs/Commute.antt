@@ -79,7 +79,7 @@ change-commutes o₁ w₁ k₁ v₁ o₂ w₂ k₂ v₂ d g =
         (place o₁ w₁ i)
 
 -- the ranges of two records of a page that share no byte
-ranges : (a m b n : ℕ) → (ltb a (b + n) && ltb b (a + m)) ≡ false → Disjoint a m b n
+pub ranges : (a m b n : ℕ) → (ltb a (b + n) && ltb b (a + m)) ≡ false → Disjoint a m b n
 ranges a m b n h = go (ltb a (b + n)) (ltb b (a + m)) refl refl h
   where
     go : (s t : Bool) → ltb a (b + n) ≡ s → ltb b (a + m) ≡ t → (s && t) ≡ false → Disjoint a m b n

@@ -6,3 +6,5 @@ pub mod View
 pub mod Loose
 pub mod Numbered
 pub mod Commits
+pub mod Views
+pub mod Reader
