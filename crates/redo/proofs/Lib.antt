@@ -3,8 +3,8 @@ pub mod Bytes
 pub mod Commute
 pub mod Order
 pub mod View
+pub mod Views
 pub mod Loose
 pub mod Numbered
 pub mod Commits
-pub mod Views
 pub mod Reader

@@ -21,6 +21,7 @@ use Rattle.onlinecheck.proofs.Rows.{and-both, every-imp}
 use Rattle.compact.proofs.Kept.{getD-put-below, getD-put-above, num-put, num-put-below, take-put}
 use Rattle.redo.proofs.Bytes.{Agree, num-agree, put-outside, put-inside}
 use Rattle.redo.proofs.View.{SameBody, body-page, body-offset, body-length, numbered-body, entered-body}
+use Rattle.redo.proofs.Views.{keep-all, keep-none}
 use Rattle.redo.proofs.Loose.{numberedFrom}
 
 -- the fields of a body say whether a record is well formed
@@ -199,22 +200,6 @@ module _ (page offset w kind v owner : ℕ) where
   pub row-number : numberOf (rowOf page offset w kind v owner) ≡ 0
   unfolding num
   row-number = num-agree 4 (rowOf page offset w kind v owner) z₀ 15 (λ i p q. high-byte i p)
-
-module _ {A : Type 0} where
-  -- a test that each passes picks all, and one that none passes picks none
-  pub keep-all : (b : A → Bool) (l : List A) → every b l ≡ true → keep b l ≡ l
-  unfolding keep every
-  keep-all b [] h = refl
-  keep-all b (x ∷ l) h =
-      let e : (b x ≡ true) × (every b l ≡ true) = and-both (b x) (every b l) h in
-      ap (λ (t : Bool). consIf t x (keep b l)) (e .0) ∙ ap (λ (k : List A). x ∷ k) (keep-all b l (e .1))
-
-  pub keep-none : (b : A → Bool) (l : List A) → every (λ (x : A). not (b x)) l ≡ true → keep b l ≡ []
-  unfolding keep every
-  keep-none b [] h = refl
-  keep-none b (x ∷ l) h =
-      let e : (not (b x) ≡ true) × (every (λ (y : A). not (b y)) l ≡ true) = and-both (not (b x)) (every (λ (y : A). not (b y)) l) h in
-      ap (λ (t : Bool). consIf t x (keep b l)) (not-true (b x) (e .0)) ∙ keep-none b l (e .1)
 
 -- committed rows: no test for uncommitted ones picks any of them
 pub keep-committed-all : (a : List (List ℕ)) → every committed a ≡ true → keep committed a ≡ a
