@@ -1,0 +1,129 @@
+-- What the lost areas say after each step: the use order, live bytes, page entries and online rows that are read there, and that S2, S3 and S14 of "Sound tables" hold of them.
+-- The invariant of a history is about these lists, so each step is judged there on lists only.
+use Prim.Native.Nat.{ℕ, suc, _+_, _*_, _-_, _%_, _≤_, _<_}
+use native.Mathlib.Omega.{arith}
+use mathlib.Core.Path.{_≡_, refl, sym, ap, _∙_}
+use mathlib.Core.Bool.{Bool, true, false, cond}
+use mathlib.Core.List.{List, [], _∷_, _++_, map}
+use lib.ListN.{length, getD, drop, set, replicate, length-append, length-set, length-map}
+use Rattle.record.specs.Part.{part}
+use Rattle.record.specs.Rows.{rows, table}
+use Rattle.record.specs.Record.{pageOf, apply, numberRows}
+use Rattle.apply.proofs.Laws.{length-apply}
+use Rattle.order.specs.Order.{without, touched}
+use Rattle.order.proofs.Laws.{length-without}
+use Rattle.table.proofs.Laws.{Wide, none, one, wide-append, wide-number, length-number, length-table, rows-table, zeros-table}
+use Rattle.rules.specs.Lent.{Lent, sizeOf, pagesOf, framesOf, roomOf, lastOf, countOf, liveAt, liveOf, orderOf, entryAt, entryOf, entriesOf, onlineOf, inFrame, frameOf, dirtyIn, pageIn, withPage, withOrder, withEntries, withCount}
+use Rattle.rules.specs.Sound.{zeros}
+use Rattle.rules.specs.Steps.{begun, placeOf, freed, placed, rebuilt, fetchedEntries, fetchedPool, readTables, readStep, updateTables, updated, committing, evicted}
+use Rattle.compact.proofs.Kept.{length-part, length-with}
+use Rattle.compact.proofs.Laws.{one-fits}
+use Rattle.readback.proofs.Seen.{livesOf, Areas, Reads, Whole}
+use Rattle.readback.proofs.Tables.{Says, says-count, says-order, says-entries, says-entry, says-live, entry-says, live-says, zeros-replicate}
+
+-- what the bytes of the online area say
+record Lists (room : ℕ) (l : List ℕ) (rs : List (List ℕ)) : Type 0 where
+  long : length l ≡ 19 * room
+  fits : length rs ≤ room
+  read : rows 19 (length rs) l 0 ≡ rs
+  zero : zeros (drop (length rs * 19) l) ≡ true
+  wide : Wide 19 rs
+
+-- a table that was written anew
+lists-table : (room : ℕ) (rs : List (List ℕ)) → Wide 19 rs → length rs ≤ room → Lists room (table 19 room rs) rs
+lists-table room rs w h =
+    record {
+      long = length-table room w h ∙ omega arith;
+      fits = h;
+      read = rows-table room w;
+      zero = ap (λ (l : List ℕ). zeros l) (zeros-table room w) ∙ zeros-replicate ((room - length rs) * 19);
+      wide = w;
+    }
+
+-- the lost areas, each by itself and together
+module _ {s : Lent} {order lives entries : List ℕ} {online : List (List ℕ)} (w : Reads s order lives entries online) where
+  tables-say : Says (framesOf s) (pagesOf s) (s .lost .tables) (length online) order lives entries
+  tables-say =
+      record {
+        long = w .areas .tables;
+        count-read = w .count;
+        used = w .used;
+        fits = w .frames;
+        order-read = ap (λ (n : ℕ). part 35 n (s .lost .tables)) (sym (w .used)) ∙ w .order-read;
+        order-zero = w .order-zero;
+        lives-read = w .lives-read;
+        entries-read = w .entries-read;
+      }
+
+  online-lists : Lists (roomOf s) (s .lost .online) online
+  online-lists =
+      record {
+        long = w .areas .online;
+        fits = w .room;
+        read = ap (λ (n : ℕ). rows 19 n (s .lost .online) 0) (sym (w .count)) ∙ w .online-read;
+        zero = w .online-zero;
+        wide = w .wide;
+      }
+
+together : (s : Lent) (order lives entries : List ℕ) (online : List (List ℕ)) → Says (framesOf s) (pagesOf s) (s .lost .tables) (length online) order lives entries
+    → Lists (roomOf s) (s .lost .online) online → length (s .lost .pool) ≡ sizeOf s * framesOf s → Reads s order lives entries online
+together s order lives entries online t o p =
+    record {
+      areas = record { tables = t .long; online = o .long; pool = p };
+      count = t .count-read;
+      room = o .fits;
+      used = t .used;
+      frames = t .fits;
+      order-read = ap (λ (n : ℕ). part 35 n (s .lost .tables)) (t .used) ∙ t .order-read;
+      order-zero = t .order-zero;
+      lives-read = t .lives-read;
+      entries-read = t .entries-read;
+      online-read = ap (λ (n : ℕ). rows 19 n (s .lost .online) 0) (t .count-read) ∙ o .read;
+      online-zero = o .zero;
+      wide = o .wide;
+    }
+
+-- lengths: the page entries after a fetch, a frame's place in the pool, the pool after a fetch and after a change
+entries-length : (s : Lent) → Areas s → length (entriesOf s) ≡ pagesOf s
+entries-length s a = length-part (35 + framesOf s) (pagesOf s) (s .lost .tables) (omega (arith, a .tables))
+
+either-length : (b : Bool) (n : ℕ) (x y : List ℕ) → length x ≡ n → length y ≡ n → length (cond b x y) ≡ n
+either-length true n x y h k = h
+either-length false n x y h k = k
+
+pub length-fetched : (s : Lent) (p : ℕ) → Areas s → length (fetchedEntries s p) ≡ pagesOf s
+unfolding fetchedEntries placed
+length-fetched s p a =
+    let f : ℕ = placeOf s p in
+    let es : List ℕ = entriesOf s in
+    let h : length es ≡ pagesOf s = entries-length s a in
+    either-length (inFrame (entryOf s p)) (pagesOf s) es (placed f p es) h
+    (length-set (map (freed f) es) p (2 * (f + 1) + getD es p 0 % 2) ∙ length-map es (freed f) ∙ h)
+
+page-fits : (f frames size : ℕ) (l : List ℕ) → f < frames → length l ≡ size * frames → f * size + size ≤ length l
+page-fits f frames size l h e = one-fits f frames size (length l) h e
+
+page-length : (f frames size : ℕ) (l g : List ℕ) → f < frames → length l ≡ size * frames → length g ≡ size → length (withPage size f l g) ≡ size * frames
+page-length f frames size l g h e q = length-with (f * size) size l g (page-fits f frames size l h e) q ∙ e
+
+pub length-fetched-pool : (s : Lent) (p : ℕ) → Areas s → placeOf s p < framesOf s → length (rebuilt s p) ≡ sizeOf s → length (fetchedPool s p) ≡ sizeOf s * framesOf s
+unfolding fetchedPool
+length-fetched-pool s p a h q =
+    either-length (inFrame (entryOf s p)) (sizeOf s * framesOf s) (s .lost .pool) (withPage (sizeOf s) (placeOf s p) (s .lost .pool) (rebuilt s p)) (a .pool)
+    (page-length (placeOf s p) (framesOf s) (sizeOf s) (s .lost .pool) (rebuilt s p) h (a .pool) q)
+
+-- what is read of a store whose lost areas are whole: the count, an entry, a live byte
+pub count-whole : (s : Lent) → Whole s → countOf s ≡ length (onlineOf s)
+count-whole s w = w .count
+
+pub entry-whole : (s : Lent) (p : ℕ) → Whole s → p < pagesOf s → entryOf s p ≡ getD (entriesOf s) p 0
+entry-whole s p w h = entry-says (tables-say w) p h
+
+pub live-whole : (s : Lent) (x : ℕ) → Whole s → 1 ≤ x → x ≤ 32 → liveOf s x ≡ getD (livesOf s) (x - 1) 0
+live-whole s x w h k = live-says (tables-say w) x h k
+
+-- begin
+pub reads-begun : (s : Lent) (x : ℕ) → Whole s → 1 ≤ x → x ≤ 32 → Reads (begun s x .lent) (orderOf s) (set (livesOf s) (x - 1) 1) (entriesOf s) (onlineOf s)
+unfolding begun
+reads-begun s x w h k =
+    together (begun s x .lent) (orderOf s) (set (livesOf s) (x - 1) 1) (entriesOf s) (onlineOf s) (says-live (tables-say w) x 1 h k) (online-lists w) (w .areas .pool)
