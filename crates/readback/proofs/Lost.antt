@@ -127,3 +127,64 @@ pub reads-begun : (s : Lent) (x : ℕ) → Whole s → 1 ≤ x → x ≤ 32 → 
 unfolding begun
 reads-begun s x w h k =
     together (begun s x .lent) (orderOf s) (set (livesOf s) (x - 1) 1) (entriesOf s) (onlineOf s) (says-live (tables-say w) x 1 h k) (online-lists w) (w .areas .pool)
+
+-- evict
+pub reads-evicted : (s : Lent) (p : ℕ) → Whole s → p < pagesOf s
+    → Reads (evicted s p .lent) (without (frameOf (entryOf s p)) (orderOf s)) (livesOf s) (set (entriesOf s) p (entryOf s p % 2)) (onlineOf s)
+unfolding evicted
+reads-evicted s p w h =
+    let o : List ℕ = without (frameOf (entryOf s p)) (orderOf s) in
+    let k : length o ≤ framesOf s = omega (arith, length-without (frameOf (entryOf s p)) (orderOf s), w .frames) in
+    together (evicted s p .lent) o (livesOf s) (set (entriesOf s) p (entryOf s p % 2)) (onlineOf s)
+    (says-order (says-entry (tables-say w) p (entryOf s p % 2) h) o k) (online-lists w) (w .areas .pool)
+
+-- read
+pub reads-read : (s : Lent) (p : ℕ) → Whole s → length (touched (placeOf s p) (orderOf s)) ≤ framesOf s → placeOf s p < framesOf s → length (rebuilt s p) ≡ sizeOf s
+    → Reads (readStep s p .lent) (touched (placeOf s p) (orderOf s)) (livesOf s) (fetchedEntries s p) (onlineOf s)
+unfolding readStep readTables
+reads-read s p w h k q =
+    together (readStep s p .lent) (touched (placeOf s p) (orderOf s)) (livesOf s) (fetchedEntries s p) (onlineOf s)
+    (says-order (says-entries (tables-say w) (fetchedEntries s p) (length-fetched s p (w .areas))) (touched (placeOf s p) (orderOf s)) h)
+    (online-lists w) (length-fetched-pool s p (w .areas) k q)
+
+-- update
+module _ (s : Lent) (r : List ℕ) (w : Whole s) (long : length r ≡ 19) (room : countOf s + 1 ≤ roomOf s) (most : roomOf s ≤ 512)
+  (h : length (touched (placeOf s (pageOf r)) (orderOf s)) ≤ framesOf s) (k : placeOf s (pageOf r) < framesOf s) (q : length (rebuilt s (pageOf r)) ≡ sizeOf s) where
+  appended : length (onlineOf s ++ (r ∷ [])) ≡ countOf s + 1
+  appended = length-append (onlineOf s) (r ∷ []) ∙ ap (λ (n : ℕ). n + 1) (sym (w .count))
+
+  changed-entries : List ℕ
+  changed-entries = set (fetchedEntries s (pageOf r)) (pageOf r) (dirtyIn (placeOf s (pageOf r)))
+
+  changed-length : length changed-entries ≡ pagesOf s
+  unfolding changed-entries
+  changed-length = length-set (fetchedEntries s (pageOf r)) (pageOf r) (dirtyIn (placeOf s (pageOf r))) ∙ length-fetched s (pageOf r) (w .areas)
+
+  update-says : Says (framesOf s) (pagesOf s) (updateTables s (pageOf r)) (length (onlineOf s ++ (r ∷ []))) (touched (placeOf s (pageOf r)) (orderOf s)) (livesOf s) changed-entries
+  unfolding updateTables changed-entries
+  update-says =
+      rw appended (says-count (says-order (says-entries (tables-say w) changed-entries changed-length) (touched (placeOf s (pageOf r)) (orderOf s)) h) (countOf s + 1) (omega arith))
+
+  frame-length : length (pageIn (sizeOf s) (placeOf s (pageOf r)) (fetchedPool s (pageOf r))) ≡ sizeOf s
+  frame-length =
+      length-part (placeOf s (pageOf r) * sizeOf s) (sizeOf s) (fetchedPool s (pageOf r))
+      (page-fits (placeOf s (pageOf r)) (framesOf s) (sizeOf s) (fetchedPool s (pageOf r)) k (length-fetched-pool s (pageOf r) (w .areas) k q))
+
+  pub reads-updated : Reads (updated s r .lent) (touched (placeOf s (pageOf r)) (orderOf s)) (livesOf s) (set (fetchedEntries s (pageOf r)) (pageOf r) (dirtyIn (placeOf s (pageOf r)))) (onlineOf s ++ (r ∷ []))
+  unfolding updated changed-entries
+  reads-updated =
+      let f : ℕ = placeOf s (pageOf r) in
+      let g : List ℕ = pageIn (sizeOf s) f (fetchedPool s (pageOf r)) in
+      together (updated s r .lent) (touched f (orderOf s)) (livesOf s) changed-entries (onlineOf s ++ (r ∷ [])) update-says
+      (lists-table (roomOf s) (onlineOf s ++ (r ∷ [])) (wide-append (w .wide) (one long none)) (omega (arith, appended)))
+      (page-length f (framesOf s) (sizeOf s) (fetchedPool s (pageOf r)) (apply r g) k (length-fetched-pool s (pageOf r) (w .areas) k q) (length-apply r g ∙ frame-length))
+
+-- commit
+pub reads-committing : (s : Lent) (x : ℕ) → Whole s → 1 ≤ x → x ≤ 32
+    → Reads (committing s x .lent) (orderOf s) (set (livesOf s) (x - 1) 0) (entriesOf s) (numberRows x (lastOf s + 1) (onlineOf s))
+unfolding committing
+reads-committing s x w h k =
+    let rs : List (List ℕ) = numberRows x (lastOf s + 1) (onlineOf s) in
+    let n : length rs ≡ length (onlineOf s) = length-number x (lastOf s + 1) (onlineOf s) in
+    together (committing s x .lent) (orderOf s) (set (livesOf s) (x - 1) 0) (entriesOf s) rs
+    (rw n (says-live (tables-say w) x 0 h k)) (lists-table (roomOf s) rs (wide-number x (lastOf s + 1) (w .wide)) (omega (arith, w .room))) (w .areas .pool)
