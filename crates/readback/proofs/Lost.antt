@@ -1,25 +1,26 @@
 -- What the lost areas say after each step: the use order, live bytes, page entries and online rows that are read there, and that S2, S3 and S14 of "Sound tables" hold of them.
 -- The invariant of a history is about these lists, so each step is judged there on lists only.
-use Prim.Native.Nat.{ℕ, suc, _+_, _*_, _-_, _%_, _≤_, _<_}
+use Prim.Native.Nat.{ℕ, _+_, _*_, _-_, _%_, _≤_, _<_}
 use native.Mathlib.Omega.{arith}
 use mathlib.Core.Path.{_≡_, refl, sym, ap, _∙_}
-use mathlib.Core.Bool.{Bool, true, false, cond}
+use mathlib.Core.Bool.{Bool, true, false, cond, not}
 use mathlib.Core.List.{List, [], _∷_, _++_, map}
-use lib.ListN.{length, getD, drop, set, replicate, length-append, length-set, length-map}
+use lib.ListN.{length, getD, drop, set, replicate, length-append, length-set, length-map, length-replicate}
+use lib.Dec.{ltb}
 use Rattle.record.specs.Part.{part}
-use Rattle.record.specs.Rows.{rows, table}
-use Rattle.record.specs.Record.{pageOf, apply, numberRows}
-use Rattle.apply.proofs.Laws.{length-apply}
+use Rattle.record.specs.Rows.{rows, table, consIf, keep}
+use Rattle.record.specs.Record.{pageOf, apply, applied, onPage, ownedBy, gone, numberRows}
+use Rattle.apply.proofs.Laws.{length-apply, length-applied}
 use Rattle.order.specs.Order.{without, touched}
 use Rattle.order.proofs.Laws.{length-without}
-use Rattle.table.proofs.Laws.{Wide, none, one, wide-append, wide-number, length-number, length-table, rows-table, zeros-table}
-use Rattle.rules.specs.Lent.{Lent, sizeOf, pagesOf, framesOf, roomOf, lastOf, countOf, liveAt, liveOf, orderOf, entryAt, entryOf, entriesOf, onlineOf, inFrame, frameOf, dirtyIn, pageIn, withPage, withOrder, withEntries, withCount}
-use Rattle.rules.specs.Sound.{zeros}
-use Rattle.rules.specs.Steps.{begun, placeOf, freed, placed, rebuilt, fetchedEntries, fetchedPool, readTables, readStep, updateTables, updated, committing, evicted}
+use Rattle.table.proofs.Laws.{Wide, none, one, keep-length, wide-keep, wide-append, wide-number, length-number, length-table, rows-table, zeros-table}
+use Rattle.rules.specs.Lent.{Lent, sizeOf, pagesOf, framesOf, roomOf, lastOf, countOf, liveOf, orderOf, entryAt, entryOf, entriesOf, onlineOf, inFrame, frameOf, isDirty, dirtyIn, pageIn, withPage}
+use Rattle.rules.specs.Sound.{every, zeros}
+use Rattle.rules.specs.Steps.{begun, freedOf, placeOf, freed, placed, rebuilt, fetchedEntries, fetchedPool, readTables, readStep, updateTables, updated, owned, committing, others, framesFreed, judgedAnew, aborted, evicted, fromFrame, compactedEntry, compactedOrder, unfolded, compacted, closed, enteringAll, restarted, formatted}
 use Rattle.compact.proofs.Kept.{length-part, length-with}
 use Rattle.compact.proofs.Laws.{one-fits}
 use Rattle.readback.proofs.Seen.{livesOf, Areas, Reads, Whole}
-use Rattle.readback.proofs.Tables.{Says, says-count, says-order, says-entries, says-entry, says-live, entry-says, live-says, zeros-replicate}
+use Rattle.readback.proofs.Tables.{Says, says-count, says-order, says-entries, says-entry, says-live, entry-says, live-says, zeros-replicate, every-both, says-none, judgedEntries, evictedEntries, pagesBelow, says-judged, says-evicted}
 
 -- what the bytes of the online area say
 record Lists (room : ℕ) (l : List ℕ) (rs : List (List ℕ)) : Type 0 where
@@ -39,6 +40,12 @@ lists-table room rs w h =
       zero = ap (λ (l : List ℕ). zeros l) (zeros-table room w) ∙ zeros-replicate ((room - length rs) * 19);
       wide = w;
     }
+
+-- an online area of zeros
+lists-none : (n room : ℕ) → n ≡ 19 * room → Lists room (replicate n 0) []
+unfolding rows
+lists-none n room e =
+    record { long = length-replicate {A = ℕ} n 0 ∙ e; fits = omega arith; read = refl; zero = zeros-replicate n; wide = none }
 
 -- the lost areas, each by itself and together
 module _ {s : Lent} {order lives entries : List ℕ} {online : List (List ℕ)} (w : Reads s order lives entries online) where
@@ -83,7 +90,7 @@ together s order lives entries online t o p =
       wide = o .wide;
     }
 
--- lengths: the page entries after a fetch, a frame's place in the pool, the pool after a fetch and after a change
+-- lengths: the page entries after a fetch, a page in its area, a page that was read and rebuilt, the pool after a fetch
 entries-length : (s : Lent) → Areas s → length (entriesOf s) ≡ pagesOf s
 entries-length s a = length-part (35 + framesOf s) (pagesOf s) (s .lost .tables) (omega (arith, a .tables))
 
@@ -105,6 +112,13 @@ page-fits f frames size l h e = one-fits f frames size (length l) h e
 
 page-length : (f frames size : ℕ) (l g : List ℕ) → f < frames → length l ≡ size * frames → length g ≡ size → length (withPage size f l g) ≡ size * frames
 page-length f frames size l g h e q = length-with (f * size) size l g (page-fits f frames size l h e) q ∙ e
+
+pub length-rebuilt : (s : Lent) (p : ℕ) → length (s .durable .stored) ≡ sizeOf s * pagesOf s → p < pagesOf s → length (rebuilt s p) ≡ sizeOf s
+unfolding rebuilt
+length-rebuilt s p e h =
+    let g : List ℕ = pageIn (sizeOf s) p (s .durable .stored) in
+    let n : length g ≡ sizeOf s = length-part (p * sizeOf s) (sizeOf s) (s .durable .stored) (page-fits p (pagesOf s) (sizeOf s) (s .durable .stored) h e) in
+    either-length (isDirty (entryOf s p)) (sizeOf s) (applied (keep (onPage p) (onlineOf s)) g) g (length-applied (keep (onPage p) (onlineOf s)) g ∙ n) n
 
 pub length-fetched-pool : (s : Lent) (p : ℕ) → Areas s → placeOf s p < framesOf s → length (rebuilt s p) ≡ sizeOf s → length (fetchedPool s p) ≡ sizeOf s * framesOf s
 unfolding fetchedPool
@@ -188,3 +202,99 @@ reads-committing s x w h k =
     let n : length rs ≡ length (onlineOf s) = length-number x (lastOf s + 1) (onlineOf s) in
     together (committing s x .lent) (orderOf s) (set (livesOf s) (x - 1) 0) (entriesOf s) rs
     (rw n (says-live (tables-say w) x 0 h k)) (lists-table (roomOf s) rs (wide-number x (lastOf s + 1) (w .wide)) (omega (arith, w .room))) (w .areas .pool)
+
+-- a test that all rows pass, those kept pass
+every-if : (b : List ℕ → Bool) (z : Bool) (r : List ℕ) (rs : List (List ℕ)) → b r ≡ true → every b rs ≡ true → every b (consIf z r rs) ≡ true
+unfolding every
+every-if b true r rs h k = rw h k
+every-if b false r rs h k = k
+
+every-keep : (b d : List ℕ → Bool) (rs : List (List ℕ)) → every b rs ≡ true → every b (keep d rs) ≡ true
+unfolding every keep
+every-keep b d [] h = h
+every-keep b d (r ∷ rs) h =
+    let k = every-both b r rs h in
+    every-if b (d r) r (keep d rs) (k .0) (every-keep b d rs (k .1))
+
+-- rows that are kept in the online table
+module _ (s : Lent) (b : List ℕ → Bool) (w : Whole s) where
+  kept-fit : length (keep b (onlineOf s)) ≤ roomOf s
+  kept-fit = omega (arith, keep-length b (onlineOf s), w .room)
+
+  lists-kept : Lists (roomOf s) (table 19 (roomOf s) (keep b (onlineOf s))) (keep b (onlineOf s))
+  lists-kept = lists-table (roomOf s) (keep b (onlineOf s)) (wide-keep b (w .wide)) kept-fit
+
+-- an order from which frames are freed is no longer
+freed-length : (b : Bool) (f n : ℕ) (o : List ℕ) → length o ≤ n → length (cond b (without f o) o) ≤ n
+freed-length true f n o h = omega (arith, length-without f o)
+freed-length false f n o h = h
+
+freed-all-length : (frames n : ℕ) (t : List ℕ) (rs : List (List ℕ)) (o : List ℕ) → length o ≤ n → length (framesFreed frames t rs o) ≤ n
+unfolding framesFreed
+freed-all-length frames n t [] o h = h
+freed-all-length frames n t (r ∷ rs) o h =
+    let e : ℕ = getD t (entryAt frames (pageOf r)) 0 in
+    freed-all-length frames n t rs (freedOf e o) (freed-length (inFrame e) (frameOf e) n o h)
+
+compacted-length : (s : Lent) (p n : ℕ) → length (orderOf s) ≤ n → length (compactedOrder s p) ≤ n
+unfolding compactedOrder
+compacted-length s p n h = go (fromFrame s p)
+  where
+    go : (b : Bool) → length (cond b (orderOf s) (freedOf (entryOf s p) (orderOf s))) ≤ n
+    go true = h
+    go false = freed-length (inFrame (entryOf s p)) (frameOf (entryOf s p)) n (orderOf s) h
+
+-- abort
+pub reads-aborted : (s : Lent) (x : ℕ) → Whole s → roomOf s ≤ 512 → 1 ≤ x → x ≤ 32 → pagesBelow (pagesOf s) (onlineOf s) ≡ true
+    → Reads (aborted s x .lent) (framesFreed (framesOf s) (s .lost .tables) (owned s x) (orderOf s)) (set (livesOf s) (x - 1) 0) (judgedEntries (others s x) (owned s x) (entriesOf s)) (others s x)
+unfolding aborted
+reads-aborted s x w most h k b =
+    let mine : List (List ℕ) = owned s x in
+    let rest : List (List ℕ) = others s x in
+    let o : List ℕ = framesFreed (framesOf s) (s .lost .tables) mine (orderOf s) in
+    let q : length o ≤ framesOf s = freed-all-length (framesOf s) (framesOf s) (s .lost .tables) mine (orderOf s) (w .frames) in
+    let fit : length rest ≤ roomOf s = kept-fit s (λ (r : List ℕ). not (gone true x 0 r)) w in
+    let judged : Says (framesOf s) (pagesOf s) (judgedAnew (framesOf s) rest mine (s .lost .tables)) (length (onlineOf s)) (orderOf s) (livesOf s) (judgedEntries rest mine (entriesOf s)) =
+    says-judged rest mine (s .lost .tables) (orderOf s) (livesOf s) (entriesOf s) (every-keep (λ (r : List ℕ). ltb (pageOf r) (pagesOf s)) (ownedBy x) (onlineOf s) b) (tables-say w) in
+    together (aborted s x .lent) o (set (livesOf s) (x - 1) 0) (judgedEntries rest mine (entriesOf s)) rest
+    (says-live (says-count (says-order judged o q) (length rest) (omega arith)) x 0 h k)
+    (lists-kept s (λ (r : List ℕ). not (gone true x 0 r)) w) (w .areas .pool)
+
+-- compact
+pub reads-compacted : (s : Lent) (p : ℕ) → Whole s → roomOf s ≤ 512 → p < pagesOf s
+    → Reads (compacted s p .lent) (compactedOrder s p) (livesOf s) (set (entriesOf s) p (compactedEntry s p)) (unfolded s p)
+unfolding compacted
+reads-compacted s p w most h =
+    let q : length (compactedOrder s p) ≤ framesOf s = compacted-length s p (framesOf s) (w .frames) in
+    let fit : length (unfolded s p) ≤ roomOf s = kept-fit s (λ (r : List ℕ). not (gone false 0 p r)) w in
+    together (compacted s p .lent) (compactedOrder s p) (livesOf s) (set (entriesOf s) p (compactedEntry s p)) (unfolded s p)
+    (says-count (says-order (says-entry (tables-say w) p (compactedEntry s p) h) (compactedOrder s p) q) (length (unfolded s p)) (omega arith))
+    (lists-kept s (λ (r : List ℕ). not (gone false 0 p r)) w) (w .areas .pool)
+
+-- close leaves the lost areas as they are
+pub reads-closed : (s : Lent) → Whole s → Reads (closed s .lent) (orderOf s) (livesOf s) (entriesOf s) (onlineOf s)
+unfolding closed
+reads-closed s w = together (closed s .lent) (orderOf s) (livesOf s) (entriesOf s) (onlineOf s) (tables-say w) (online-lists w) (w .areas .pool)
+
+-- restart
+pub reads-restarted : (s : Lent) → Areas s → roomOf s ≤ 512 → length (enteringAll s) ≤ roomOf s → Wide 19 (enteringAll s) → pagesBelow (pagesOf s) (enteringAll s) ≡ true
+    → Reads (restarted s .lent) [] (replicate 32 0) (evictedEntries (enteringAll s) (replicate (pagesOf s) 0)) (enteringAll s)
+unfolding restarted
+reads-restarted s a most h v b =
+    let rs : List (List ℕ) = enteringAll s in
+    let t : List ℕ = replicate (length (s .lost .tables)) 0 in
+    let z : Says (framesOf s) (pagesOf s) t 0 [] (replicate 32 0) (replicate (pagesOf s) 0) = rw (a .tables) (says-none (framesOf s) (pagesOf s)) in
+    together (restarted s .lent) [] (replicate 32 0) (evictedEntries rs (replicate (pagesOf s) 0)) rs
+    (says-count (says-evicted rs t [] (replicate 32 0) (replicate (pagesOf s) 0) b z) (length rs) (omega arith))
+    (lists-table (roomOf s) rs v h) (a .pool)
+
+-- format: what it fixed is read in the new store
+pub reads-formatted : (s : Lent) (size pages frames room span last : ℕ) → length (s .lost .tables) ≡ 35 + frames + pages → length (s .lost .online) ≡ 19 * room → length (s .lost .pool) ≡ size * frames
+    → sizeOf (formatted s size pages frames room span last .lent) ≡ size → pagesOf (formatted s size pages frames room span last .lent) ≡ pages
+    → framesOf (formatted s size pages frames room span last .lent) ≡ frames → roomOf (formatted s size pages frames room span last .lent) ≡ room
+    → Reads (formatted s size pages frames room span last .lent) [] (replicate 32 0) (replicate pages 0) []
+unfolding formatted
+reads-formatted s size pages frames room span last t o p es ep ef er =
+    let z : Says frames pages (replicate (length (s .lost .tables)) 0) 0 [] (replicate 32 0) (replicate pages 0) = rw t (says-none frames pages) in
+    together (formatted s size pages frames room span last .lent) [] (replicate 32 0) (replicate pages 0) []
+    (rw (ef, ep) z) (rw er (lists-none (length (s .lost .online)) room o)) (rw (es, ef) p)

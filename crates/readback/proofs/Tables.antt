@@ -278,13 +278,18 @@ evictedEntries (r ∷ rs) es = evictedEntries rs (set es (pageOf r) 1)
 abbrev pub pagesBelow : ℕ → List (List ℕ) → Bool
 pagesBelow pages rs = every (λ (r : List ℕ). ltb (pageOf r) pages) rs
 
-below-both : (pages : ℕ) (r : List ℕ) (rs : List (List ℕ)) → pagesBelow pages (r ∷ rs) ≡ true → (pageOf r < pages) × (pagesBelow pages rs ≡ true)
+pub every-both : (b : List ℕ → Bool) (r : List ℕ) (rs : List (List ℕ)) → every b (r ∷ rs) ≡ true → (b r ≡ true) × (every b rs ≡ true)
 unfolding every
-below-both pages r rs e = go (ltb (pageOf r) pages) refl
+every-both b r rs e = go (b r) refl
   where
-    go : (b : Bool) → ltb (pageOf r) pages ≡ b → (pageOf r < pages) × (pagesBelow pages rs ≡ true)
-    go true d = (ltb-true _ _ d, rw d at e)
+    go : (z : Bool) → b r ≡ z → (b r ≡ true) × (every b rs ≡ true)
+    go true d = (d, rw d at e)
     go false d = let w : false ≡ true = rw d at e in let z : _≡_ {A = ℕ} 0 1 = cc in absurd (omega arith)
+
+below-both : (pages : ℕ) (r : List ℕ) (rs : List (List ℕ)) → pagesBelow pages (r ∷ rs) ≡ true → (pageOf r < pages) × (pagesBelow pages rs ≡ true)
+below-both pages r rs e =
+    let k = every-both (λ (q : List ℕ). ltb (pageOf q) pages) r rs e in
+    (ltb-true (pageOf r) pages (k .0), k .1)
 
 -- pages judged anew by the rows that remain
 pub says-judged : {frames pages count : ℕ} (remain rs : List (List ℕ)) (t order lives entries : List ℕ) → pagesBelow pages rs ≡ true → Says frames pages t count order lives entries
