@@ -90,8 +90,8 @@ together s order lives entries online t o p =
       wide = o .wide;
     }
 
--- lengths: the page entries after a fetch, a page in its area, a page that was read and rebuilt, the pool after a fetch
-entries-length : (s : Lent) → Areas s → length (entriesOf s) ≡ pagesOf s
+-- lengths: the page entries, also after a fetch, an area with a page written, a page that was read and rebuilt, the pool after a fetch
+pub entries-length : (s : Lent) → Areas s → length (entriesOf s) ≡ pagesOf s
 entries-length s a = length-part (35 + framesOf s) (pagesOf s) (s .lost .tables) (omega (arith, a .tables))
 
 either-length : (b : Bool) (n : ℕ) (x y : List ℕ) → length x ≡ n → length y ≡ n → length (cond b x y) ≡ n
@@ -107,17 +107,14 @@ length-fetched s p a =
     either-length (inFrame (entryOf s p)) (pagesOf s) es (placed f p es) h
     (length-set (map (freed f) es) p (2 * (f + 1) + getD es p 0 % 2) ∙ length-map es (freed f) ∙ h)
 
-page-fits : (f frames size : ℕ) (l : List ℕ) → f < frames → length l ≡ size * frames → f * size + size ≤ length l
-page-fits f frames size l h e = one-fits f frames size (length l) h e
-
 page-length : (f frames size : ℕ) (l g : List ℕ) → f < frames → length l ≡ size * frames → length g ≡ size → length (withPage size f l g) ≡ size * frames
-page-length f frames size l g h e q = length-with (f * size) size l g (page-fits f frames size l h e) q ∙ e
+page-length f frames size l g h e q = length-with (f * size) size l g (one-fits f frames size (length l) h e) q ∙ e
 
 pub length-rebuilt : (s : Lent) (p : ℕ) → length (s .durable .stored) ≡ sizeOf s * pagesOf s → p < pagesOf s → length (rebuilt s p) ≡ sizeOf s
 unfolding rebuilt
 length-rebuilt s p e h =
     let g : List ℕ = pageIn (sizeOf s) p (s .durable .stored) in
-    let n : length g ≡ sizeOf s = length-part (p * sizeOf s) (sizeOf s) (s .durable .stored) (page-fits p (pagesOf s) (sizeOf s) (s .durable .stored) h e) in
+    let n : length g ≡ sizeOf s = length-part (p * sizeOf s) (sizeOf s) (s .durable .stored) (one-fits p (pagesOf s) (sizeOf s) (length (s .durable .stored)) h e) in
     either-length (isDirty (entryOf s p)) (sizeOf s) (applied (keep (onPage p) (onlineOf s)) g) g (length-applied (keep (onPage p) (onlineOf s)) g ∙ n) n
 
 pub length-fetched-pool : (s : Lent) (p : ℕ) → Areas s → placeOf s p < framesOf s → length (rebuilt s p) ≡ sizeOf s → length (fetchedPool s p) ≡ sizeOf s * framesOf s
@@ -182,7 +179,7 @@ module _ (s : Lent) (r : List ℕ) (w : Whole s) (long : length r ≡ 19) (room 
   frame-length : length (pageIn (sizeOf s) (placeOf s (pageOf r)) (fetchedPool s (pageOf r))) ≡ sizeOf s
   frame-length =
       length-part (placeOf s (pageOf r) * sizeOf s) (sizeOf s) (fetchedPool s (pageOf r))
-      (page-fits (placeOf s (pageOf r)) (framesOf s) (sizeOf s) (fetchedPool s (pageOf r)) k (length-fetched-pool s (pageOf r) (w .areas) k q))
+      (one-fits (placeOf s (pageOf r)) (framesOf s) (sizeOf s) (length (fetchedPool s (pageOf r))) k (length-fetched-pool s (pageOf r) (w .areas) k q))
 
   pub reads-updated : Reads (updated s r .lent) (touched (placeOf s (pageOf r)) (orderOf s)) (livesOf s) (set (fetchedEntries s (pageOf r)) (pageOf r) (dirtyIn (placeOf s (pageOf r)))) (onlineOf s ++ (r ∷ []))
   unfolding updated changed-entries

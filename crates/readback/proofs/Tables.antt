@@ -21,6 +21,7 @@ use Rattle.rules.specs.Sound.{every, zeros}
 use Rattle.rules.specs.Steps.{judgedAnew, evictedAll}
 use Rattle.compact.proofs.Kept.{num-put, drop-put, take-put, length-with, drop-with, part-with, part-set}
 
+-- count of online rows, use order, live bytes and page entries that are read in tables t
 pub record Says (frames pages : ℕ) (t : List ℕ) (count : ℕ) (order lives entries : List ℕ) : Type 0 where
   pub long : length t ≡ 35 + frames + pages
   pub count-read : num 2 t 0 ≡ count
@@ -278,6 +279,7 @@ evictedEntries (r ∷ rs) es = evictedEntries rs (set es (pageOf r) 1)
 abbrev pub pagesBelow : ℕ → List (List ℕ) → Bool
 pagesBelow pages rs = every (λ (r : List ℕ). ltb (pageOf r) pages) rs
 
+-- the first row and the others
 pub every-both : (b : List ℕ → Bool) (r : List ℕ) (rs : List (List ℕ)) → every b (r ∷ rs) ≡ true → (b r ≡ true) × (every b rs ≡ true)
 unfolding every
 every-both b r rs e = go (b r) refl
