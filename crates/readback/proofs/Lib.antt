@@ -1,2 +1,4 @@
 -- What the lent bytes say after each step.
 pub mod Seen
+pub mod Tables
+pub mod Lost
