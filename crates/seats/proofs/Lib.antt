@@ -1,2 +1,3 @@
 -- Frames, page entries and the use order.
 pub mod Seated
+pub mod Loops
