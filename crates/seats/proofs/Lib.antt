@@ -2,3 +2,4 @@
 pub mod Seated
 pub mod Counting
 pub mod Places
+pub mod Loops
