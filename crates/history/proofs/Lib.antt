@@ -1,4 +1,4 @@
 -- The book, a chapter a file.
 pub mod Right
 pub mod Settle
-pub mod Restart
+pub mod Restarts

@@ -8,7 +8,7 @@ use Rattle.readback.proofs.Seen.{Areas, Reads, Whole, livesOf}
 use Rattle.history.specs.Past.{Past}
 use Rattle.history.proofs.Right.{Ground, PastRight, DurableRight, LostRight, Right, openOf}
 
-module _ {g : Ground} {done : List (List ℕ)} {h : Past} {s : Lent} {order lives entries : List ℕ} {online : List (List ℕ)} (e : Reads s order lives entries online) where
+module _ {s : Lent} {order lives entries : List ℕ} {online : List (List ℕ)} (e : Reads s order lives entries online) where
   -- a fact of the lists is one of what is read
   over : (F : List ℕ → List ℕ → List ℕ → List (List ℕ) → Type 0) → F order lives entries online → F (orderOf s) (livesOf s) (entriesOf s) (onlineOf s)
   over F f =
@@ -17,9 +17,9 @@ module _ {g : Ground} {done : List (List ℕ)} {h : Past} {s : Lent} {order live
       (subst (λ (es : List ℕ). F order lives es (onlineOf s)) (sym (e .entries-read))
       (subst (λ (on : List (List ℕ)). F order lives entries on) (sym (e .online-read)) f)))
 
-  pub settle : PastRight g done h → DurableRight g done (s .durable) → LostRight g done (openOf h) (h .live) (framesOf s) (s .durable .marks) (s .durable .stored) (s .lost .pool) order lives entries online → Right g done h s
+  pub settle : {g : Ground} {done : List (List ℕ)} {h : Past} → PastRight g done h → DurableRight g done (s .durable) → LostRight g done (openOf h) (h .live) (framesOf s) (s .durable .marks) (s .durable .stored) (s .lost .pool) order lives entries online → Right g done h s
   unfolding over
-  settle p d l =
+  settle {g} {done} {h} p d l =
       record {
         past = p;
         durable = d;

@@ -20,7 +20,8 @@ use Rattle.rules.specs.Steps.{begun, freedOf, placeOf, freed, placed, rebuilt, 
 use Rattle.compact.proofs.Kept.{length-part, length-with}
 use Rattle.compact.proofs.Laws.{one-fits}
 use Rattle.readback.proofs.Seen.{livesOf, Areas, Reads, Whole}
-use Rattle.readback.proofs.Tables.{Says, says-count, says-order, says-entries, says-entry, says-live, entry-says, live-says, zeros-replicate, every-both, says-none, judgedEntries, evictedEntries, pagesBelow, says-judged, says-evicted}
+use Rattle.seats.proofs.Loops.{judgedEntries, evictedEntries}
+use Rattle.readback.proofs.Tables.{Says, says-count, says-order, says-entries, says-entry, says-live, entry-says, live-says, zeros-replicate, every-both, says-none, pagesBelow, says-judged, says-evicted}
 
 -- what the bytes of the online area say
 record Lists (room : ℕ) (l : List ℕ) (rs : List (List ℕ)) : Type 0 where

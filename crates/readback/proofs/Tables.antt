@@ -19,6 +19,7 @@ use Rattle.record.proofs.Laws.{getD-part, num-front}
 use Rattle.rules.specs.Lent.{liveAt, entryAt, withOrder, withEntries, withCount}
 use Rattle.rules.specs.Sound.{every, zeros}
 use Rattle.rules.specs.Steps.{judgedAnew, evictedAll}
+use Rattle.seats.proofs.Loops.{judgedEntries, evictedEntries}
 use Rattle.compact.proofs.Kept.{num-put, drop-put, take-put, length-with, drop-with, part-with, part-set}
 
 -- count of online rows, use order, live bytes and page entries that are read in tables t
@@ -266,14 +267,6 @@ module _ {frames pages : ℕ} {t : List ℕ} {count : ℕ} {order lives entries 
         entries-read = part-outside v (35 + frames) pages (inr (omega arith)) ∙ part-outside w (35 + frames) pages (inr (omega arith)) ∙ h .entries-read;
       }
 
--- the walks of abort and restart over page entries, on the list of them
-unfoldable pub judgedEntries : List (List ℕ) → List (List ℕ) → List ℕ → List ℕ
-judgedEntries remain [] es = es
-judgedEntries remain (r ∷ rs) es = judgedEntries remain rs (set es (pageOf r) (cond (any (onPage (pageOf r)) remain) 1 0))
-
-unfoldable pub evictedEntries : List (List ℕ) → List ℕ → List ℕ
-evictedEntries [] es = es
-evictedEntries (r ∷ rs) es = evictedEntries rs (set es (pageOf r) 1)
 
 -- the page of each row is one of the store's
 abbrev pub pagesBelow : ℕ → List (List ℕ) → Bool
