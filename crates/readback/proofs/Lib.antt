@@ -1,2 +1,3 @@
 -- What the lent bytes say after each step.
 pub mod Seen
+pub mod Pages
