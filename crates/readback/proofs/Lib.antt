@@ -1,3 +1,5 @@
 -- What the lent bytes say after each step.
 pub mod Seen
 pub mod Pages
+pub mod Extremes
+pub mod Marks
