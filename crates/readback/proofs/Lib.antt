@@ -2,3 +2,6 @@
 pub mod Seen
 pub mod Tables
 pub mod Lost
+pub mod Pages
+pub mod Extremes
+pub mod Marks

@@ -1,0 +1,213 @@
+-- The smallest and the greatest number of rows: close takes dirty numbers and what is dropped from the first, compact takes a stamp from the second.
+use Prim.Native.Nat.{ℕ, zero, suc, _≤_, max}
+use native.Mathlib.Omega.{arith}
+use mathlib.Core.Path.{_≡_, refl, sym, subst}
+use mathlib.Core.Logic.{_⊎_, inl, inr}
+use mathlib.Core.Bool.{Bool, true, false, _&&_, _||_}
+use mathlib.Core.List.{List, [], _∷_}
+use lib.ListN.{length}
+use lib.Dec.{eqb, leb}
+use borrow.Author.Tests.{eqb-true, eq-eqb, leb-true, leb-false, le-leb}
+use Rattle.record.specs.Rows.{keep, any, consIf}
+use Rattle.record.specs.Record.{numberOf, lesser, smallest, greatest}
+use Rattle.closing.proofs.Laws.{lesser-none, lesser-old, lesser-new}
+use Rattle.rules.specs.Sound.{every}
+
+-- a row that has a number, and one whose number is at most n
+abbrev pub hasNumber : List ℕ → Bool
+hasNumber r = leb 1 (numberOf r)
+
+abbrev pub numberAtMost : ℕ → List ℕ → Bool
+numberAtMost n r = leb (numberOf r) n
+
+-- tests of every row, and of one
+pub both : (a b : Bool) → (a && b) ≡ true → (a ≡ true) × (b ≡ true)
+both true b h = (refl, h)
+both false b h = let z : _≡_ {A = ℕ} 0 1 = cc in absurd (omega arith)
+
+-- one of those kept passes a test: that one is kept by a wider test too
+or-either : (a b : Bool) → (a || b) ≡ true → (a ≡ true) ⊎ (b ≡ true)
+or-either true b h = inl refl
+or-either false b h = inr h
+
+or-left : (a b : Bool) → a ≡ true → (a || b) ≡ true
+or-left a b h = rw h
+
+or-right : (a b : Bool) → b ≡ true → (a || b) ≡ true
+or-right true b h = refl
+or-right false b h = h
+
+module _ {A : Type 0} where
+  -- what every row passes and what some row passes meet in one row
+  pub meet : (b d : A → Bool) (l : List A) {C : Type 0} → every b l ≡ true → any d l ≡ true → ((x : A) → b x ≡ true → d x ≡ true → C) → C
+  unfolding every any
+  meet b d [] {C} h k f = let z : _≡_ {A = ℕ} 0 1 = cc in absurd (omega arith)
+  meet b d (x ∷ l) {C} h k f = go (or-either (d x) (any d l) k) (λ (e : any d l ≡ true). meet b d l (both (b x) (every b l) h .1) e f)
+    where
+      go : (d x ≡ true) ⊎ (any d l ≡ true) → (any d l ≡ true → C) → C
+      go (inl e) g = f x (both (b x) (every b l) h .0) e
+      go (inr e) g = g e
+
+  -- those that a narrower test keeps are among those that a wider one keeps
+  any-more : (x : A) (k m : List A) (t : A → Bool) (y z : Bool) → (y ≡ true → z ≡ true) → (any t k ≡ true → any t m ≡ true) → any t (consIf y x k) ≡ true → any t (consIf z x m) ≡ true
+  unfolding any
+  any-more x k m t true z g f h = rw (g refl) (go (or-either (t x) (any t k) h))
+    where
+      go : (t x ≡ true) ⊎ (any t k ≡ true) → (t x || any t m) ≡ true
+      go (inl e) = or-left (t x) (any t m) e
+      go (inr e) = or-right (t x) (any t m) (f e)
+  any-more x k m t false true g f h = or-right (t x) (any t m) (f h)
+  any-more x k m t false false g f h = f h
+
+  pub any-wider : (b d t : A → Bool) → ((x : A) → b x ≡ true → d x ≡ true) → (l : List A) → any t (keep b l) ≡ true → any t (keep d l) ≡ true
+  unfolding keep
+  any-wider b d t f [] h = h
+  any-wider b d t f (x ∷ l) h = any-more x (keep b l) (keep d l) t (b x) (d x) (f x) (any-wider b d t f l) h
+
+  every-less : (x : A) (k m : List A) (t : A → Bool) (y z : Bool) → (y ≡ true → z ≡ true) → (every t m ≡ true → every t k ≡ true) → every t (consIf z x m) ≡ true → every t (consIf y x k) ≡ true
+  unfolding every
+  every-less x k m t false false g f h = f h
+  every-less x k m t false true g f h = f (both (t x) (every t m) h .1)
+  every-less x k m t true z g f h =
+      let e = both (t x) (every t m) (rw (g refl) at h) in
+      rw (e .0) (f (e .1))
+
+  pub every-narrower : (b d t : A → Bool) → ((x : A) → b x ≡ true → d x ≡ true) → (l : List A) → every t (keep d l) ≡ true → every t (keep b l) ≡ true
+  unfolding keep
+  every-narrower b d t f [] h = h
+  every-narrower b d t f (x ∷ l) h = every-less x (keep b l) (keep d l) t (b x) (d x) (f x) (every-narrower b d t f l) h
+
+-- the smaller of two numbers
+lesser-is : (a b : ℕ) → 1 ≤ a → ((lesser a b ≡ a) × (a ≤ b)) ⊎ ((lesser a b ≡ b) × (b ≤ a))
+lesser-is a b h = go (leb a b) refl
+  where
+    go : (z : Bool) → leb a b ≡ z → ((lesser a b ≡ a) × (a ≤ b)) ⊎ ((lesser a b ≡ b) × (b ≤ a))
+    go true e = inl (sym (lesser-old a b (λ k. omega arith) (leb-true a b e)), leb-true a b e)
+    go false e = inr (sym (lesser-new a b (λ k. omega arith) (leb-false a b e)), omega (arith, leb-false a b e))
+
+-- where 0 is none, the smaller is at most the new number
+pub lesser-most : (a b : ℕ) → lesser a b ≤ b
+lesser-most zero b = let e : b ≡ lesser 0 b = lesser-none 0 b refl in omega arith
+lesser-most (suc a) b = go (lesser-is (suc a) b (omega arith))
+  where
+    go : ((lesser (suc a) b ≡ suc a) × (suc a ≤ b)) ⊎ ((lesser (suc a) b ≡ b) × (b ≤ suc a)) → lesser (suc a) b ≤ b
+    go (inl e) = omega arith
+    go (inr e) = omega arith
+
+lesser-least : (a b : ℕ) → 1 ≤ b → 1 ≤ lesser a b
+lesser-least zero b h = let e : b ≡ lesser 0 b = lesser-none 0 b refl in omega arith
+lesser-least (suc a) b h = go (lesser-is (suc a) b (omega arith))
+  where
+    go : ((lesser (suc a) b ≡ suc a) × (suc a ≤ b)) ⊎ ((lesser (suc a) b ≡ b) × (b ≤ suc a)) → 1 ≤ lesser (suc a) b
+    go (inl e) = omega arith
+    go (inr e) = omega arith
+
+-- among rows that have numbers: no more than the smallest so far
+smallest-from : (a : ℕ) (rs : List (List ℕ)) → every hasNumber rs ≡ true → 1 ≤ a → (1 ≤ smallest a rs) × (smallest a rs ≤ a)
+unfolding smallest every
+smallest-from a [] h k = (k, omega arith)
+smallest-from a (r ∷ rs) h k =
+    let e = both (hasNumber r) (every hasNumber rs) h in
+    let f : 1 ≤ lesser a (numberOf r) = lesser-least a (numberOf r) (leb-true 1 (numberOf r) (e .0)) in
+    let g = smallest-from (lesser a (numberOf r)) rs (e .1) f in
+    (g .0, go (lesser-is a (numberOf r) k) (g .1))
+  where
+    go : ((lesser a (numberOf r) ≡ a) × (a ≤ numberOf r)) ⊎ ((lesser a (numberOf r) ≡ numberOf r) × (numberOf r ≤ a)) → smallest (lesser a (numberOf r)) rs ≤ lesser a (numberOf r) → smallest (lesser a (numberOf r)) rs ≤ a
+    go (inl i) j = omega arith
+    go (inr i) j = omega arith
+
+-- the smallest is at most each number
+smallest-each : (a : ℕ) (rs : List (List ℕ)) → every hasNumber rs ≡ true → every (λ (r : List ℕ). leb (smallest a rs) (numberOf r)) rs ≡ true
+unfolding smallest every
+smallest-each a [] h = refl
+smallest-each a (r ∷ rs) h =
+    let e = both (hasNumber r) (every hasNumber rs) h in
+    let f : 1 ≤ lesser a (numberOf r) = lesser-least a (numberOf r) (leb-true 1 (numberOf r) (e .0)) in
+    let g = smallest-from (lesser a (numberOf r)) rs (e .1) f in
+    let m : lesser a (numberOf r) ≤ numberOf r = lesser-most a (numberOf r) in
+    let i : smallest (lesser a (numberOf r)) rs ≤ numberOf r = omega (arith, g .1) in
+    rw (le-leb (smallest (lesser a (numberOf r)) rs) (numberOf r) i) (smallest-each (lesser a (numberOf r)) rs (e .1))
+
+pub smallest-all : (rs : List (List ℕ)) → every hasNumber rs ≡ true → every (λ (r : List ℕ). leb (smallest 0 rs) (numberOf r)) rs ≡ true
+smallest-all rs h = smallest-each 0 rs h
+
+-- it is the smallest so far, or one of them
+of-three : (b a n m : ℕ) (rest : Bool) → ((b ≡ a) × (a ≤ n)) ⊎ ((b ≡ n) × (n ≤ a)) → (eqb b m || rest) ≡ true → (eqb a m || (eqb n m || rest)) ≡ true
+of-three b a n m rest (inl i) h = go (or-either (eqb a m) rest (rw (i .0) at h))
+  where
+    go : (eqb a m ≡ true) ⊎ (rest ≡ true) → (eqb a m || (eqb n m || rest)) ≡ true
+    go (inl j) = or-left (eqb a m) (eqb n m || rest) j
+    go (inr j) = or-right (eqb a m) (eqb n m || rest) (or-right (eqb n m) rest j)
+of-three b a n m rest (inr i) h = or-right (eqb a m) (eqb n m || rest) (rw (i .0) at h)
+
+smallest-either : (a : ℕ) (rs : List (List ℕ)) → 1 ≤ a → every hasNumber rs ≡ true → (eqb a (smallest a rs) || any (λ (r : List ℕ). eqb (numberOf r) (smallest a rs)) rs) ≡ true
+unfolding smallest every any
+smallest-either a [] k h = or-left (eqb a a) false (eq-eqb a a refl)
+smallest-either a (r ∷ rs) k h =
+    let e = both (hasNumber r) (every hasNumber rs) h in
+    let b : ℕ = lesser a (numberOf r) in
+    of-three b a (numberOf r) (smallest b rs) (any (λ (x : List ℕ). eqb (numberOf x) (smallest b rs)) rs) (lesser-is a (numberOf r) k)
+    (smallest-either b rs (lesser-least a (numberOf r) (leb-true 1 (numberOf r) (e .0))) (e .1))
+
+-- one of them where there is one
+pub smallest-found : (rs : List (List ℕ)) → every hasNumber rs ≡ true → 1 ≤ length rs → any (λ (r : List ℕ). eqb (numberOf r) (smallest 0 rs)) rs ≡ true
+unfolding smallest every any
+smallest-found [] h k = absurd (omega arith)
+smallest-found (r ∷ rs) h k =
+    let e = both (hasNumber r) (every hasNumber rs) h in
+    let n : 1 ≤ numberOf r = leb-true 1 (numberOf r) (e .0) in
+    subst (λ (x : ℕ). (eqb (numberOf r) (smallest x rs) || any (λ (y : List ℕ). eqb (numberOf y) (smallest x rs)) rs) ≡ true) (lesser-none 0 (numberOf r) refl) (smallest-either (numberOf r) rs n (e .1))
+
+-- 0 exactly where there is none
+pub smallest-nothing : smallest 0 [] ≡ 0
+unfolding smallest
+smallest-nothing = refl
+
+pub smallest-some : (rs : List (List ℕ)) → every hasNumber rs ≡ true → 1 ≤ length rs → 1 ≤ smallest 0 rs
+unfolding smallest every
+smallest-some [] h k = absurd (omega arith)
+smallest-some (r ∷ rs) h k =
+    let e = both (hasNumber r) (every hasNumber rs) h in
+    smallest-from (lesser 0 (numberOf r)) rs (e .1) (lesser-least 0 (numberOf r) (leb-true 1 (numberOf r) (e .0))) .0
+
+pub smallest-empty : (rs : List (List ℕ)) → every hasNumber rs ≡ true → smallest 0 rs ≡ 0 → rs ≡ []
+smallest-empty [] h e = refl
+smallest-empty (r ∷ rs) h e = absurd (omega (arith, smallest-some (r ∷ rs) h (omega arith)))
+
+-- among more rows the smallest is no greater
+pub smallest-wider : (b d : List ℕ → Bool) → ((r : List ℕ) → b r ≡ true → d r ≡ true) → (rs : List (List ℕ)) → every hasNumber (keep d rs) ≡ true → 1 ≤ length (keep b rs)
+    → smallest 0 (keep d rs) ≤ smallest 0 (keep b rs)
+smallest-wider b d f rs h k =
+    meet (λ (r : List ℕ). leb (smallest 0 (keep d rs)) (numberOf r)) (λ (r : List ℕ). eqb (numberOf r) (smallest 0 (keep b rs))) (keep d rs)
+    (smallest-all (keep d rs) h)
+    (any-wider b d (λ (r : List ℕ). eqb (numberOf r) (smallest 0 (keep b rs))) f rs (smallest-found (keep b rs) (every-narrower b d hasNumber f rs h) k))
+    (λ (r : List ℕ) (i : leb (smallest 0 (keep d rs)) (numberOf r) ≡ true) (j : eqb (numberOf r) (smallest 0 (keep b rs)) ≡ true). omega (arith, leb-true (smallest 0 (keep d rs)) (numberOf r) i, eqb-true (numberOf r) (smallest 0 (keep b rs)) j))
+
+-- the greatest is at least the greatest so far, and each number
+greatest-from : (a : ℕ) (rs : List (List ℕ)) → a ≤ greatest a rs
+unfolding greatest
+greatest-from a [] = omega arith
+greatest-from a (r ∷ rs) = let e : max a (numberOf r) ≤ greatest (max a (numberOf r)) rs = greatest-from (max a (numberOf r)) rs in omega arith
+
+greatest-each : (a : ℕ) (rs : List (List ℕ)) → every (numberAtMost (greatest a rs)) rs ≡ true
+unfolding greatest every
+greatest-each a [] = refl
+greatest-each a (r ∷ rs) =
+    let e : max a (numberOf r) ≤ greatest (max a (numberOf r)) rs = greatest-from (max a (numberOf r)) rs in
+    let f : numberOf r ≤ greatest (max a (numberOf r)) rs = omega arith in
+    rw (le-leb (numberOf r) (greatest (max a (numberOf r)) rs) f) (greatest-each (max a (numberOf r)) rs)
+
+pub greatest-all : (rs : List (List ℕ)) → every (numberAtMost (greatest 0 rs)) rs ≡ true
+greatest-all rs = greatest-each 0 rs
+
+-- and at most n where each is
+greatest-under : (a n : ℕ) (rs : List (List ℕ)) → a ≤ n → every (numberAtMost n) rs ≡ true → greatest a rs ≤ n
+unfolding greatest every
+greatest-under a n [] k h = k
+greatest-under a n (r ∷ rs) k h =
+    let e = both (numberAtMost n r) (every (numberAtMost n) rs) h in
+    let f : numberOf r ≤ n = leb-true (numberOf r) n (e .0) in
+    greatest-under (max a (numberOf r)) n rs (omega arith) (e .1)
+
+pub greatest-most : (n : ℕ) (rs : List (List ℕ)) → every (numberAtMost n) rs ≡ true → greatest 0 rs ≤ n
+greatest-most n rs h = greatest-under 0 n rs (omega arith) h
