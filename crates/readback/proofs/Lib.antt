@@ -3,3 +3,4 @@ pub mod Seen
 pub mod Pages
 pub mod Extremes
 pub mod Marks
+pub mod Log
