@@ -442,6 +442,9 @@ module _ (s : Lent) (size pages frames room span last : ℕ) (r : inRange size p
   unfolding formatted
   span-format = span-five size pages frames room span r
 
+  pub range-format : inRange (sizeOf (formatted s size pages frames room span last .lent)) (pagesOf (formatted s size pages frames room span last .lent)) (framesOf (formatted s size pages frames room span last .lent)) (roomOf (formatted s size pages frames room span last .lent)) (spanOf (formatted s size pages frames room span last .lent)) ≡ true
+  range-format = rw (size-format, pages-format, frames-format, room-format, span-format) r
+
   module _ (h : length (s .durable .marks) ≡ 12 + 8 * pages) (hl : last ≤ 4294967295) where
     pub marks-format : length (formatted s size pages frames room span last .lent .durable .marks) ≡ length (s .durable .marks)
     unfolding formatted
