@@ -1,2 +1,3 @@
 -- The book, a chapter a file.
 pub mod Right
+pub mod Soundly
