@@ -1,3 +1,4 @@
 -- The book, a chapter a file.
 pub mod Right
+pub mod Tested
 pub mod Soundly

@@ -6,45 +6,27 @@ use mathlib.Core.Path.{_≡_, refl, sym, ap, _∙_}
 use mathlib.Core.Logic.{_⊎_, inl, inr}
 use mathlib.Core.Bool.{Bool, true, false, not, _&&_, _||_}
 use mathlib.Core.List.{List, [], _∷_, _++_}
-use lib.ListN.{length, getD, drop}
+use lib.ListN.{length, getD, take, drop, replicate, length-append, length-replicate, List·getD-eq-default}
+use lib.Seq.{getD-drop, take-all, take-at}
 use lib.Dec.{eqb, leb, ltb}
-use borrow.Author.Tests.{eq-eqb, le-leb, leb-true}
-use Rattle.record.specs.Record.{wellFormed}
-use Rattle.onlinecheck.proofs.Rows.{and-both}
-use Rattle.rules.specs.Lent.{Lent, sizeOf, pagesOf, framesOf, roomOf, spanOf, lastOf, closedOf, loggedOf, stampOf, dirtyOf, firstOf, logOf}
-use Rattle.rules.specs.Sound.{every, upTo, between, inRange, exactLengths, s1-parameters, s2-lengths, s3-logged, s16-logged, s18-first, s15-stamps, s17-s19-dirty, s7-log-records, s14-log-zero, soundDurable}
-use Rattle.readback.proofs.Seen.{Areas}
-use Rattle.history.proofs.Right.{Ground, DurableRight}
-
--- tests together, and a test that holds on one side
-pub and-in : (a b : Bool) → a ≡ true → b ≡ true → (a && b) ≡ true
-and-in a b h k = rw (h, k)
-
-or-left : (a b : Bool) → a ≡ true → (a || b) ≡ true
-or-left a b h = rw h
-
-or-right : (a b : Bool) → b ≡ true → (a || b) ≡ true
-or-right true b h = refl
-or-right false b h = h
-
--- each of n numbers passes a test
-upTo-from : (b : ℕ → Bool) (n a : ℕ) → ((i : ℕ) → i < n → b (a + i) ≡ true) → upTo b n a ≡ true
-unfolding upTo
-upTo-from b zero a h = refl
-upTo-from b (suc n) a h =
-    and-in (b a) (upTo b n (a + 1))
-    (ap b (omega arith) ∙ h 0 (omega arith))
-    (upTo-from b n (a + 1) (λ i k. ap b (omega arith) ∙ h (suc i) (omega arith)))
-
-pub upTo-all : (b : ℕ → Bool) (n : ℕ) → ((i : ℕ) → i < n → b i ≡ true) → upTo b n 0 ≡ true
-upTo-all b n h = upTo-from b n 0 (λ i k. ap b (omega arith) ∙ h i k)
-
--- what each row passes, those behind some of them pass
-every-drop : (b : List ℕ → Bool) (n : ℕ) (l : List (List ℕ)) → every b l ≡ true → every b (drop n l) ≡ true
-unfolding every
-every-drop b zero l h = h
-every-drop b (suc n) [] h = h
-every-drop b (suc n) (r ∷ l) h = every-drop b n l (and-both (b r) (every b l) h .1)
+use borrow.Author.Tests.{eq-eqb, ne-eqb, eqb-true, eqb-false, le-leb, leb-true, lt-ltb, ltb-true, not-true}
+use Rattle.word.specs.Word.{num}
+use Rattle.record.specs.Part.{part}
+use Rattle.record.specs.Rows.{rowAt, rows, keep, consIf, any}
+use Rattle.record.specs.Record.{pageOf, offsetOf, lengthOf, kindOf, valueOf, ownerOf, numberOf, committed, bodyOf, onPage, entered, wellFormed, isLength}
+use Rattle.record.proofs.Laws.{getD-part}
+use Rattle.onlinecheck.proofs.Rows.{and-both, every-imp}
+use Rattle.table.proofs.Laws.{Wide, none, one}
+use Rattle.compact.proofs.Kept.{getD-put-below, num-put, take-put}
+use Rattle.rules.specs.Lent.{Lent, sizeOf, pagesOf, framesOf, roomOf, spanOf, lastOf, closedOf, loggedOf, stampOf, dirtyOf, firstOf, logOf, liveOf, countOf, usedOf, orderOf, entriesOf, onlineOf, isDirty}
+use Rattle.rules.specs.Sound.{every, pairs, upTo, between, inRange, agree, apart, same, serving, times, owning, exactLengths, s1-parameters, s2-lengths, s3-logged, s16-logged, s18-first, s15-stamps, s17-s19-dirty, s7-log-records, s14-log-zero, soundDurable, s3-counts, s20-live, s4-entries, s5-frame-once, s6-order, s14-order-zero, s7-online-records, s8-owners, s14-online-zero, s10-in-log, s11-above-stamp, s9-number-once, s12-dirty, s13-apart, soundLost, sound}
+use Rattle.redo.proofs.Order.{free, free-sym, pairs-imp}
+use Rattle.redo.proofs.View.{SameBody, entered-body, body-page, body-offset, body-length}
+use Rattle.redo.proofs.Loose.{_≅_, still, exchange, under, then, numberedFrom}
+use Rattle.readback.proofs.Seen.{Areas, Whole, livesOf}
+use Rattle.history.specs.Past.{Past}
+use Rattle.history.proofs.Tested.{and-in, or-left, or-right, or-of, upTo-all, every-drop, every-place, every-append, every-two, every-kept, every-keep, pairs-keep, same-itself, rows-at, every-numbered}
+use Rattle.history.proofs.Right.{Ground, rowsOf, uncommitted, openOf, aboveStamp, openRow, PastRight, DurableRight, LostRight, Right}
 
 module _ (g : Ground) (done : List (List ℕ)) (s : Lent) (d : DurableRight g done (s .durable)) where
   has-parameters : s1-parameters s ≡ true
