@@ -4,3 +4,5 @@ pub mod Commute
 pub mod Order
 pub mod View
 pub mod Loose
+pub mod Numbered
+pub mod Commits
