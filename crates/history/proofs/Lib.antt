@@ -2,3 +2,4 @@
 pub mod Right
 pub mod Tested
 pub mod Soundly
+pub mod Known

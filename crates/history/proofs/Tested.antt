@@ -8,15 +8,16 @@ use mathlib.Core.List.{List, [], _∷_, _++_}
 use lib.ListN.{length, getD, take, drop, replicate, length-append, length-replicate, List·getD-eq-default}
 use lib.Seq.{take-all, take-at}
 use lib.Dec.{eqb, leb, ltb}
-use borrow.Author.Tests.{eq-eqb}
+use borrow.Author.Tests.{eq-eqb, lt-ltb, not-true}
 use Rattle.record.specs.Rows.{rowAt, rows, keep, consIf, any}
 use Rattle.record.specs.Record.{ownerOf, numberOf, committed, bodyOf, entered, wellFormed}
 use Rattle.onlinecheck.proofs.Rows.{and-both, every-imp}
 use Rattle.order.proofs.Laws.{padded-at}
-use Rattle.table.proofs.Laws.{Wide, none, one}
+use Rattle.table.proofs.Laws.{Wide, none, one, keep-no}
 use Rattle.compact.proofs.Kept.{getD-put-below, num-put, take-put}
 use Rattle.rules.specs.Sound.{every, pairs, upTo, same}
 use Rattle.redo.proofs.Loose.{numberedFrom}
+use Rattle.redo.proofs.Numbered.{entered-number}
 
 -- tests together, and a test that holds on one side
 pub and-in : (a b : Bool) → a ≡ true → b ≡ true → (a && b) ≡ true
@@ -57,6 +58,11 @@ unfolding every
 every-place b [] i p h = absurd (omega arith)
 every-place b (r ∷ l) zero p h = and-both (b r) (every b l) h .0
 every-place b (r ∷ l) (suc i) p h = every-place b l i (omega arith) (and-both (b r) (every b l) h .1)
+
+pub every-all : (b : List ℕ → Bool) → ((r : List ℕ) → b r ≡ true) → (l : List (List ℕ)) → every b l ≡ true
+unfolding every
+every-all b f [] = refl
+every-all b f (r ∷ l) = and-in (b r) (every b l) (f r) (every-all b f l)
 
 pub every-append : (b : List ℕ → Bool) (l m : List (List ℕ)) → every b l ≡ true → every b m ≡ true → every b (l ++ m) ≡ true
 unfolding every
@@ -100,7 +106,22 @@ pairs-keep a b (r ∷ l) h =
     pick true h k = and-in (every (b r) (keep a l)) (pairs b (keep a l)) h k
     pick false h k = k
 
--- no row with a byte of its own fails to be the same row
+-- rows of which none passes, before others
+pub any-behind : (c : List ℕ → Bool) (l m : List (List ℕ)) → every (λ (r : List ℕ). not (c r)) l ≡ true → any c (l ++ m) ≡ any c m
+unfolding every any
+any-behind c [] m h = refl
+any-behind c (r ∷ l) m h =
+    let e : (not (c r) ≡ true) × (every (λ (q : List ℕ). not (c q)) l ≡ true) = and-both (not (c r)) (every (λ (q : List ℕ). not (c q)) l) h in
+    ap (λ (t : Bool). t || any c (l ++ m)) (not-true (c r) (e .0)) ∙ any-behind c l m (e .1)
+
+pub keep-behind : (c : List ℕ → Bool) (l m : List (List ℕ)) → every (λ (r : List ℕ). not (c r)) l ≡ true → keep c (l ++ m) ≡ keep c m
+unfolding every
+keep-behind c [] m h = refl
+keep-behind c (r ∷ l) m h =
+    let e : (not (c r) ≡ true) × (every (λ (q : List ℕ). not (c q)) l ≡ true) = and-both (not (c r)) (every (λ (q : List ℕ). not (c q)) l) h in
+    keep-no c r (l ++ m) (not-true (c r) (e .0)) ∙ keep-behind c l m (e .1)
+
+-- a row is the same as itself
 pub same-itself : (l : List ℕ) → same l l ≡ true
 unfolding same
 same-itself [] = refl
@@ -121,3 +142,13 @@ every-numbered c k (b ∷ l) (one e w) h =
     and-in (c (entered b k)) (every c (numberedFrom (k + 1) l))
     (ap (λ (n : ℕ). c (entered b n)) (omega arith) ∙ h 0 (omega arith) e)
     (every-numbered c (k + 1) l w (λ i p q. ap (λ (n : ℕ). c (entered (getD l i []) n)) (omega arith) ∙ h (suc i) (omega arith) q))
+
+-- their numbers rise
+pub numbered-rises : (k : ℕ) (l : List (List ℕ)) → Wide 14 l → k + length l ≤ 4294967296 → pairs (λ (a b : List ℕ). ltb (numberOf a) (numberOf b)) (numberedFrom k l) ≡ true
+unfolding pairs numberedFrom
+numbered-rises k [] none h = refl
+numbered-rises k (b ∷ l) (one e w) h =
+    and-in (every (λ (r : List ℕ). ltb (numberOf (entered b k)) (numberOf r)) (numberedFrom (k + 1) l)) (pairs (λ (r s : List ℕ). ltb (numberOf r) (numberOf s)) (numberedFrom (k + 1) l))
+    (every-numbered (λ (r : List ℕ). ltb (numberOf (entered b k)) (numberOf r)) (k + 1) l w (λ i p q.
+      lt-ltb (numberOf (entered b k)) (numberOf (entered (getD l i []) (k + 1 + i))) (omega (arith, entered-number b k e (omega arith), entered-number (getD l i []) (k + 1 + i) q (omega arith)))))
+    (numbered-rises (k + 1) l w (omega arith))
