@@ -1,8 +1,8 @@
 -- What the lent bytes tell of the history, under the invariant: who is live, who holds bytes, what is whose, the last number and the sizes.
 -- So a call that asks the tables hears what the history says.
 use Prim.Native.Nat.{ℕ, _≤_}
-use mathlib.Core.Path.{_≡_, refl, sym, ap, _∙_}
-use mathlib.Core.Bool.{Bool, true, false, not, _&&_}
+use mathlib.Core.Path.{_≡_, sym, _∙_}
+use mathlib.Core.Bool.{true, not}
 use mathlib.Core.List.{List, _++_}
 use Rattle.record.specs.Rows.{keep, any}
 use Rattle.record.specs.Record.{committed, ownedBy}
@@ -10,7 +10,8 @@ use Rattle.rules.specs.Lent.{Lent, sizeOf, pagesOf, lastOf, onlineOf}
 use Rattle.rules.specs.Sound.{every}
 use Rattle.rules.specs.Calls.{isLive, clashes, held}
 use Rattle.onlinecheck.proofs.Rows.{every-imp}
-use Rattle.redo.proofs.Loose.{≅-any, ≅-owned, owned-open}
+use Rattle.redo.proofs.Loose.{≅-any, ≅-owned}
+use Rattle.redo.proofs.Numbered.{every-not-owned}
 use Rattle.history.specs.Past.{Past}
 use Rattle.history.proofs.Tested.{every-keep, any-behind, keep-behind}
 use Rattle.history.proofs.Right.{Ground, rowsOf, openOf, aboveStamp, Right}
@@ -20,13 +21,6 @@ use Rattle.history.proofs.Soundly.{live-byte, done-committed}
 clashes-open : (x p offset w : ℕ) (r : List ℕ) → committed r ≡ true → not (clashes x p offset w r) ≡ true
 unfolding clashes
 clashes-open x p offset w r e = rw e
-
-owned-no : (x : ℕ) → 1 ≤ x → (r : List ℕ) → committed r ≡ true → not (ownedBy x r) ≡ true
-owned-no x low r e = pick (ownedBy x r) refl
-  where
-    pick : (t : Bool) → ownedBy x r ≡ t → not t ≡ true
-    pick true h = sym (owned-open x low r h) ∙ e
-    pick false h = refl
 
 module _ (g : Ground) (done : List (List ℕ)) (h : Past) (s : Lent) (c : Right g done h s) where
   pub size-read : sizeOf s ≡ h .size
@@ -41,24 +35,24 @@ module _ (g : Ground) (done : List (List ℕ)) (h : Past) (s : Lent) (c : Right 
   pub live-read : (x : ℕ) → 1 ≤ x → x ≤ 32 → isLive (s .lost .tables) x ≡ h .live x
   live-read = live-byte g done h s c
 
-  -- of no committed record, so of none above its page's stamp
-  none-done : (b : List ℕ → Bool) → ((r : List ℕ) → committed r ≡ true → not (b r) ≡ true) → every (λ (r : List ℕ). not (b r)) (rowsOf g done) ≡ true
-  none-done b f = every-imp committed (λ (r : List ℕ). not (b r)) f (rowsOf g done) (done-committed g done h s c)
+  -- the committed records above their pages' stamps
+  kept-committed : every committed (keep (aboveStamp (s .durable .marks)) (rowsOf g done)) ≡ true
+  kept-committed = every-keep (aboveStamp (s .durable .marks)) committed (rowsOf g done) (done-committed g done h s c)
 
-  none-kept : (b : List ℕ → Bool) → ((r : List ℕ) → committed r ≡ true → not (b r) ≡ true) → every (λ (r : List ℕ). not (b r)) (keep (aboveStamp (s .durable .marks)) (rowsOf g done)) ≡ true
-  none-kept b f = every-keep (aboveStamp (s .durable .marks)) (λ (r : List ℕ). not (b r)) (rowsOf g done) (none-done b f)
+  no-clash : (x p offset w : ℕ) (l : List (List ℕ)) → every committed l ≡ true → every (λ (r : List ℕ). not (clashes x p offset w r)) l ≡ true
+  no-clash x p offset w l e = every-imp committed (λ (r : List ℕ). not (clashes x p offset w r)) (clashes-open x p offset w) l e
 
   pub held-read : (x p offset w : ℕ) → held (onlineOf s) x p offset w ≡ held (h .made) x p offset w
   held-read x p offset w =
       ≅-any (clashes x p offset w) (c .lost .online-is)
-      ∙ any-behind (clashes x p offset w) (keep (aboveStamp (s .durable .marks)) (rowsOf g done)) (openOf h) (none-kept (clashes x p offset w) (clashes-open x p offset w))
-      ∙ sym (any-behind (clashes x p offset w) (rowsOf g done) (openOf h) (none-done (clashes x p offset w) (clashes-open x p offset w)))
+      ∙ any-behind (clashes x p offset w) (keep (aboveStamp (s .durable .marks)) (rowsOf g done)) (openOf h) (no-clash x p offset w (keep (aboveStamp (s .durable .marks)) (rowsOf g done)) kept-committed)
+      ∙ sym (any-behind (clashes x p offset w) (rowsOf g done) (openOf h) (no-clash x p offset w (rowsOf g done) (done-committed g done h s c)))
       ∙ sym (≅-any (clashes x p offset w) (c .past .made))
 
   -- an owner's records stand in the tables in the order made
   pub owned-read : (x : ℕ) → 1 ≤ x → keep (ownedBy x) (onlineOf s) ≡ keep (ownedBy x) (h .made)
   owned-read x low =
       ≅-owned x low (c .lost .online-is)
-      ∙ keep-behind (ownedBy x) (keep (aboveStamp (s .durable .marks)) (rowsOf g done)) (openOf h) (none-kept (ownedBy x) (owned-no x low))
-      ∙ sym (keep-behind (ownedBy x) (rowsOf g done) (openOf h) (none-done (ownedBy x) (owned-no x low)))
+      ∙ keep-behind (ownedBy x) (keep (aboveStamp (s .durable .marks)) (rowsOf g done)) (openOf h) (every-not-owned x (keep (aboveStamp (s .durable .marks)) (rowsOf g done)) low kept-committed)
+      ∙ sym (keep-behind (ownedBy x) (rowsOf g done) (openOf h) (every-not-owned x (rowsOf g done) low (done-committed g done h s c)))
       ∙ sym (≅-owned x low (c .past .made))

@@ -20,10 +20,10 @@ use Rattle.rules.specs.Lent.{Lent, sizeOf, pagesOf, framesOf, roomOf, spanOf, l
 use Rattle.rules.specs.Sound.{every, pairs, upTo, zeros, between, inRange, agree, apart, same, serving, times, owning, exactLengths, s1-parameters, s2-lengths, s3-logged, s16-logged, s18-first, s15-stamps, s17-s19-dirty, s7-log-records, s14-log-zero, soundDurable, s3-counts, s20-live, s4-entries, s5-frame-once, s6-order, s14-order-zero, s7-online-records, s8-owners, s14-online-zero, s10-in-log, s11-above-stamp, s9-number-once, s12-dirty, s13-apart, soundLost, sound}
 use Rattle.redo.proofs.Order.{free, free-sym, pairs-imp}
 use Rattle.redo.proofs.Loose.{≅-sym, ≅-every, ≅-pairs-true}
-use Rattle.redo.proofs.Numbered.{entered-committed, entered-number, entered-bytes, entered-formed}
+use Rattle.redo.proofs.Numbered.{entered-committed, entered-number, entered-bytes, numberedFrom-committed, numberedFrom-formed, numberedFrom-rising}
 use Rattle.readback.proofs.Seen.{Areas, Whole, livesOf}
 use Rattle.history.specs.Past.{Past}
-use Rattle.history.proofs.Tested.{and-in, or-left, or-right, upTo-all, every-drop, every-place, every-append, every-all, every-two, every-kept, every-keep, pairs-keep, same-itself, rows-at, every-numbered, numbered-rises}
+use Rattle.history.proofs.Tested.{and-in, or-left, or-right, upTo-all, every-drop, every-append, every-all, every-two, every-kept, every-keep, pairs-keep, same-itself, rows-at, every-numbered}
 use Rattle.history.proofs.Right.{Ground, rowsOf, uncommitted, openOf, aboveStamp, openRow, PastRight, DurableRight, LostRight, Right}
 
 module _ (g : Ground) (done : List (List ℕ)) (s : Lent) (d : DurableRight g done (s .durable)) where
@@ -221,7 +221,7 @@ module _ (g : Ground) (done : List (List ℕ)) (h : Past) (s : Lent) (x : Right 
   open-every c f = every-imp (openRow g (h .live)) c (λ r e. f r (open-facts g (h .live) r e)) (openOf h) (x .past .open-rows)
 
   pub done-committed : every committed (rowsOf g done) ≡ true
-  done-committed = done-every committed (λ i p q. entered-committed (getD done i []) (g .base + 1 + i) q)
+  done-committed = numberedFrom-committed (g .base + 1) (x .past .done-wide)
 
   counts-within : s3-counts s ≡ true
   unfolding s3-counts
@@ -263,7 +263,7 @@ module _ (g : Ground) (done : List (List ℕ)) (h : Past) (s : Lent) (x : Right 
       ap (λ (n : ℕ). every (wellFormed n (pagesOf s)) (onlineOf s)) (x .durable .size)
       ∙ ap (λ (n : ℕ). every (wellFormed (g .size) n) (onlineOf s)) (x .durable .pages)
       ∙ online-every (wellFormed (g .size) (g .pages))
-        (also (wellFormed (g .size) (g .pages)) (done-every (wellFormed (g .size) (g .pages)) (λ i p q. entered-formed (getD done i []) (g .base + 1 + i) q (g .size) (g .pages) ∙ every-place (wellFormed (g .size) (g .pages)) done i p (x .past .formed))))
+        (also (wellFormed (g .size) (g .pages)) (numberedFrom-formed (g .size) (g .pages) (g .base + 1) (x .past .done-wide) (x .past .formed)))
         (open-every (wellFormed (g .size) (g .pages)) (λ r f. f .formed))
 
   -- the live byte of a number is its place in the live set
@@ -330,7 +330,7 @@ module _ (g : Ground) (done : List (List ℕ)) (h : Past) (s : Lent) (x : Right 
   number-once =
       ≅-pairs-true differ differ-sym (≅-sym (x .lost .online-is))
       (differ-append (keep (aboveStamp (s .durable .marks)) (rowsOf g done)) (openOf h)
-        (pairs-keep (aboveStamp (s .durable .marks)) differ (rowsOf g done) (pairs-imp (λ (a b : List ℕ). ltb (numberOf a) (numberOf b)) differ (λ a b e. differ-by a b (λ n. absurd (omega (arith, ltb-true (numberOf a) (numberOf b) e)))) (rowsOf g done) (numbered-rises (g .base + 1) done (x .past .done-wide) (omega (arith, x .durable .last, x .durable .bound)))))
+        (pairs-keep (aboveStamp (s .durable .marks)) differ (rowsOf g done) (pairs-imp (λ (a b : List ℕ). ltb (numberOf a) (numberOf b)) differ (λ a b e. differ-by a b (λ n. absurd (omega (arith, ltb-true (numberOf a) (numberOf b) e)))) (rowsOf g done) (numberedFrom-rising (g .base + 1) (x .past .done-wide) (omega (arith, x .durable .last, x .durable .bound)))))
         (open-every (λ (r : List ℕ). eqb (numberOf r) 0) (λ r f. eq-eqb (numberOf r) 0 (f .number))))
 
   dirty-right : s12-dirty s ≡ true

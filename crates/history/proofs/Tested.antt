@@ -1,23 +1,19 @@
 -- Tests of every row, of each two, of one at least: of rows appended, of rows kept, and of committed rows as the log's records make them.
 -- Soundness is such tests, and the invariant names its rows as appended, kept and numbered ones.
-use Prim.Native.Nat.{ℕ, zero, suc, _+_, _*_, _-_, _≤_, _<_}
+use Prim.Native.Nat.{ℕ, zero, suc, _+_, _<_}
 use native.Mathlib.Omega.{arith}
-use mathlib.Core.Path.{_≡_, refl, sym, ap, _∙_}
+use mathlib.Core.Path.{_≡_, refl, ap, _∙_}
 use mathlib.Core.Bool.{Bool, true, false, not, _&&_, _||_}
 use mathlib.Core.List.{List, [], _∷_, _++_}
-use lib.ListN.{length, getD, take, drop, replicate, length-append, length-replicate, List·getD-eq-default}
-use lib.Seq.{take-all, take-at}
-use lib.Dec.{eqb, leb, ltb}
-use borrow.Author.Tests.{eq-eqb, lt-ltb, not-true}
+use lib.ListN.{length, getD, drop}
+use lib.Dec.{eqb}
+use borrow.Author.Tests.{eq-eqb, not-true}
 use Rattle.record.specs.Rows.{rowAt, rows, keep, consIf, any}
-use Rattle.record.specs.Record.{ownerOf, numberOf, committed, bodyOf, entered, wellFormed}
+use Rattle.record.specs.Record.{entered}
 use Rattle.onlinecheck.proofs.Rows.{and-both, every-imp}
-use Rattle.order.proofs.Laws.{padded-at}
 use Rattle.table.proofs.Laws.{Wide, none, one, keep-no}
-use Rattle.compact.proofs.Kept.{getD-put-below, num-put, take-put}
 use Rattle.rules.specs.Sound.{every, pairs, upTo, same}
 use Rattle.redo.proofs.Loose.{numberedFrom}
-use Rattle.redo.proofs.Numbered.{entered-number}
 
 -- tests together, and a test that holds on one side
 pub and-in : (a b : Bool) → a ≡ true → b ≡ true → (a && b) ≡ true
@@ -46,18 +42,12 @@ upTo-from b (suc n) a h =
 pub upTo-all : (b : ℕ → Bool) (n : ℕ) → ((i : ℕ) → i < n → b i ≡ true) → upTo b n 0 ≡ true
 upTo-all b n h = upTo-from b n 0 (λ i k. ap b (omega arith) ∙ h i k)
 
--- every row: behind some, at a place, appended, two tests at once
+-- every row: behind some, all, appended, two tests at once
 pub every-drop : (b : List ℕ → Bool) (n : ℕ) (l : List (List ℕ)) → every b l ≡ true → every b (drop n l) ≡ true
 unfolding every
 every-drop b zero l h = h
 every-drop b (suc n) [] h = h
 every-drop b (suc n) (r ∷ l) h = every-drop b n l (and-both (b r) (every b l) h .1)
-
-pub every-place : (b : List ℕ → Bool) (l : List (List ℕ)) (i : ℕ) → i < length l → every b l ≡ true → b (getD l i []) ≡ true
-unfolding every
-every-place b [] i p h = absurd (omega arith)
-every-place b (r ∷ l) zero p h = and-both (b r) (every b l) h .0
-every-place b (r ∷ l) (suc i) p h = every-place b l i (omega arith) (and-both (b r) (every b l) h .1)
 
 pub every-all : (b : List ℕ → Bool) → ((r : List ℕ) → b r ≡ true) → (l : List (List ℕ)) → every b l ≡ true
 unfolding every
@@ -142,13 +132,3 @@ every-numbered c k (b ∷ l) (one e w) h =
     and-in (c (entered b k)) (every c (numberedFrom (k + 1) l))
     (ap (λ (n : ℕ). c (entered b n)) (omega arith) ∙ h 0 (omega arith) e)
     (every-numbered c (k + 1) l w (λ i p q. ap (λ (n : ℕ). c (entered (getD l i []) n)) (omega arith) ∙ h (suc i) (omega arith) q))
-
--- their numbers rise
-pub numbered-rises : (k : ℕ) (l : List (List ℕ)) → Wide 14 l → k + length l ≤ 4294967296 → pairs (λ (a b : List ℕ). ltb (numberOf a) (numberOf b)) (numberedFrom k l) ≡ true
-unfolding pairs numberedFrom
-numbered-rises k [] none h = refl
-numbered-rises k (b ∷ l) (one e w) h =
-    and-in (every (λ (r : List ℕ). ltb (numberOf (entered b k)) (numberOf r)) (numberedFrom (k + 1) l)) (pairs (λ (r s : List ℕ). ltb (numberOf r) (numberOf s)) (numberedFrom (k + 1) l))
-    (every-numbered (λ (r : List ℕ). ltb (numberOf (entered b k)) (numberOf r)) (k + 1) l w (λ i p q.
-      lt-ltb (numberOf (entered b k)) (numberOf (entered (getD l i []) (k + 1 + i))) (omega (arith, entered-number b k e (omega arith), entered-number (getD l i []) (k + 1 + i) q (omega arith)))))
-    (numbered-rises (k + 1) l w (omega arith))
