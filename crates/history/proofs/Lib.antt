@@ -3,3 +3,4 @@ pub mod Right
 pub mod Tested
 pub mod Soundly
 pub mod Known
+pub mod Saying
