@@ -3,8 +3,8 @@
 use Prim.Native.Nat.{ℕ, _≤_}
 use mathlib.Core.Path.{_≡_, sym, _∙_}
 use mathlib.Core.Bool.{true, not}
-use mathlib.Core.List.{List, _++_}
-use Rattle.record.specs.Rows.{keep, any}
+use mathlib.Core.List.{List}
+use Rattle.record.specs.Rows.{keep}
 use Rattle.record.specs.Record.{committed, ownedBy}
 use Rattle.rules.specs.Lent.{Lent, sizeOf, pagesOf, lastOf, onlineOf}
 use Rattle.rules.specs.Sound.{every}

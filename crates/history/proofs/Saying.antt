@@ -3,7 +3,7 @@ use Prim.Native.Nat.{ℕ, _+_, _-_, _^_, _≤_}
 use native.Mathlib.Omega.{arith}
 use mathlib.Core.Path.{_≡_, refl, ap, _∙_}
 use mathlib.Core.Logic.{_⊎_, inl, inr}
-use mathlib.Core.Bool.{Bool, true, false, not, _&&_}
+use mathlib.Core.Bool.{Bool, true, false, not}
 use mathlib.Core.List.{List}
 use lib.ListN.{length}
 use lib.Dec.{leb, ltb}
@@ -26,9 +26,9 @@ use Rattle.history.proofs.Right.{Ground, Right}
 use Rattle.history.proofs.Soundly.{right-sound}
 use Rattle.history.proofs.Known.{size-read, pages-read, last-read, live-read, held-read, owned-read}
 
--- the same verdict, or this refusal
-abbrev pub Or : Refusal → Verdict → Verdict → Type 0
-Or r v w = (v ≡ w) ⊎ (v ≡ Refuse r)
+-- the same verdict, unless it is this refusal
+abbrev pub Unless : Refusal → Verdict → Verdict → Type 0
+Unless r v w = (v ≡ w) ⊎ (v ≡ Refuse r)
 
 -- what follows a test matters where the test does not refuse
 past-test : (b : Bool) (r : Refusal) {v w : Verdict} → (b ≡ false → v ≡ w) → refuseIf b r v ≡ refuseIf b r w
@@ -36,13 +36,13 @@ unfolding refuseIf
 past-test true r h = refl
 past-test false r h = h refl
 
-past-either : (b : Bool) (q r : Refusal) {v w : Verdict} → (b ≡ false → Or r v w) → Or r (refuseIf b q v) (refuseIf b q w)
+past-either : (b : Bool) (q r : Refusal) {v w : Verdict} → (b ≡ false → Unless r v w) → Unless r (refuseIf b q v) (refuseIf b q w)
 unfolding refuseIf
 past-either true q r h = inl refl
 past-either false q r h = h refl
 
 -- a test of the tables that is a test of the history
-either-by : (a b : Bool) (q r : Refusal) {v w : Verdict} → a ≡ b → Or r v w → Or r (refuseIf a q v) (refuseIf b q w)
+either-by : (a b : Bool) (q r : Refusal) {v w : Verdict} → a ≡ b → Unless r v w → Unless r (refuseIf a q v) (refuseIf b q w)
 unfolding refuseIf
 either-by true true q r e h = inl refl
 either-by false false q r e h = h
@@ -50,12 +50,12 @@ either-by true false q r e h = let z : _≡_ {A = ℕ} 0 1 = cc in absurd (omega
 either-by false true q r e h = let z : _≡_ {A = ℕ} 0 1 = cc in absurd (omega arith)
 
 -- the refusal by itself
-either-full : (b : Bool) (r : Refusal) (v : Verdict) → Or r (refuseIf b r v) v
+either-full : (b : Bool) (r : Refusal) (v : Verdict) → Unless r (refuseIf b r v) v
 unfolding refuseIf
 either-full true r v = inr refl
 either-full false r v = inl refl
 
-either-same : (r : Refusal) (u v w : Verdict) → u ≡ v → Or r v w → Or r u w
+either-same : (r : Refusal) (u v w : Verdict) → u ≡ v → Unless r v w → Unless r u w
 either-same r u v w e (inl f) = inl (e ∙ f)
 either-same r u v w e (inr f) = inr (e ∙ f)
 
@@ -93,7 +93,7 @@ module _ (g : Ground) (done : List (List ℕ)) (h : Past) (s : Lent) (c : Right 
         ap (λ (b : Bool). refuseIf (not b) NotLive (refuseIf (held (onlineOf s) x p offset w) Held Go)) (live-of x e)
         ∙ ap (λ (b : Bool). refuseIf (not (h .live x)) NotLive (refuseIf b Held Go)) (held-read g done h s c x p offset w))))))
 
-  pub update-said : (x p offset w kind v : ℕ) → Or OnlineFull (judgeUpdate s x p offset w kind v) (sayUpdate h x p offset w kind v)
+  pub update-said : (x p offset w kind v : ℕ) → Unless OnlineFull (judgeUpdate s x p offset w kind v) (sayUpdate h x p offset w kind v)
   unfolding judgeUpdate mayUpdate sayUpdate
   update-said x p offset w kind v =
       either-same OnlineFull (judgeUpdate s x p offset w kind v) (mayUpdate (h .size) (h .pages) (roomOf s - countOf s) (s .lost .tables) (onlineOf s) x p offset w kind v) (sayUpdate h x p offset w kind v)
@@ -110,7 +110,7 @@ module _ (g : Ground) (done : List (List ℕ)) (h : Past) (s : Lent) (c : Right 
       (either-by (held (onlineOf s) x p offset w) (held (h .made) x p offset w) Held OnlineFull (held-read g done h s c x p offset w)
       (either-full (ltb (roomOf s - countOf s) 1) OnlineFull Go)))))))))
 
-  pub commit-said : (x : ℕ) → Or LogFull (judgeCommit s x) (sayCommit h x)
+  pub commit-said : (x : ℕ) → Unless LogFull (judgeCommit s x) (sayCommit h x)
   unfolding judgeCommit mayCommit sayCommit
   commit-said x =
       either-same LogFull (judgeCommit s x) (mayCommit (spanOf s) (loggedOf s) (h .last) (s .lost .tables) (length (owned s x)) x) (sayCommit h x)
@@ -120,5 +120,5 @@ module _ (g : Ground) (done : List (List ℕ)) (h : Past) (s : Lent) (c : Right 
       either-by (not (isLive (s .lost .tables) x)) (not (h .live x)) NotLive LogFull (ap not (live-of x e))
       (either-count (length (owned s x)) (length (keep (ownedBy x) (h .made))) (ap (λ (l : List (List ℕ)). length l) (owned-read g done h s c x (low x e))))))
     where
-      either-count : (k n : ℕ) → k ≡ n → Or LogFull (refuseIf (ltb (spanOf s) (loggedOf s + k)) LogFull (refuseIf (ltb 4294967295 (h .last + k)) NumbersEnd Go)) (refuseIf (ltb 4294967295 (h .last + n)) NumbersEnd Go)
+      either-count : (k n : ℕ) → k ≡ n → Unless LogFull (refuseIf (ltb (spanOf s) (loggedOf s + k)) LogFull (refuseIf (ltb 4294967295 (h .last + k)) NumbersEnd Go)) (refuseIf (ltb 4294967295 (h .last + n)) NumbersEnd Go)
       either-count k n e = rw e (either-full (ltb (spanOf s) (loggedOf s + n)) LogFull (refuseIf (ltb 4294967295 (h .last + n)) NumbersEnd Go))

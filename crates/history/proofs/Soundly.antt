@@ -1,6 +1,6 @@
 -- Soundness follows from the invariant: each clause of "Sound tables", S1 to S20, read off what the history and the bytes keep between them.
 -- So no call after an honest use is refused as not sound.
-use Prim.Native.Nat.{ℕ, _+_, _*_, _-_, _/_, _≤_, _<_}
+use Prim.Native.Nat.{ℕ, _+_, _*_, _-_, _≤_, _<_}
 use native.Mathlib.Omega.{arith}
 use mathlib.Core.Path.{_≡_, refl, sym, ap, _∙_}
 use mathlib.Core.Logic.{_⊎_, inl, inr}
@@ -10,21 +10,20 @@ use lib.ListN.{length, getD, drop}
 use lib.Seq.{getD-drop}
 use lib.Dec.{eqb, leb, ltb}
 use borrow.Author.Tests.{eq-eqb, ne-eqb, eqb-true, eqb-false, le-leb, leb-true, ltb-true, not-true}
-use Rattle.word.specs.Word.{num}
 use Rattle.record.specs.Part.{part}
 use Rattle.record.specs.Rows.{rowAt, rows, keep, any}
-use Rattle.record.specs.Record.{pageOf, ownerOf, numberOf, committed, bodyOf, onPage, entered, wellFormed, shareByte}
+use Rattle.record.specs.Record.{ownerOf, numberOf, committed, bodyOf, onPage, entered, wellFormed, shareByte}
 use Rattle.record.proofs.Laws.{getD-part}
 use Rattle.onlinecheck.proofs.Rows.{and-both, every-imp}
-use Rattle.rules.specs.Lent.{Lent, sizeOf, pagesOf, framesOf, roomOf, spanOf, lastOf, closedOf, loggedOf, stampAt, stampOf, dirtyOf, firstOf, logOf, countOf, usedOf, liveOf, orderOf, entriesOf, onlineOf, isDirty}
+use Rattle.rules.specs.Lent.{Lent, sizeOf, pagesOf, framesOf, roomOf, spanOf, lastOf, closedOf, loggedOf, stampOf, dirtyOf, firstOf, logOf, countOf, usedOf, liveOf, orderOf, entriesOf, onlineOf, isDirty}
 use Rattle.rules.specs.Sound.{every, pairs, upTo, zeros, between, inRange, agree, apart, same, serving, times, owning, exactLengths, s1-parameters, s2-lengths, s3-logged, s16-logged, s18-first, s15-stamps, s17-s19-dirty, s7-log-records, s14-log-zero, soundDurable, s3-counts, s20-live, s4-entries, s5-frame-once, s6-order, s14-order-zero, s7-online-records, s8-owners, s14-online-zero, s10-in-log, s11-above-stamp, s9-number-once, s12-dirty, s13-apart, soundLost, sound}
 use Rattle.redo.proofs.Order.{free, free-sym, pairs-imp}
 use Rattle.redo.proofs.Loose.{≅-sym, ≅-every, ≅-pairs-true}
 use Rattle.redo.proofs.Numbered.{entered-committed, entered-number, entered-bytes, numberedFrom-committed, numberedFrom-formed, numberedFrom-rising}
-use Rattle.readback.proofs.Seen.{Areas, Whole, livesOf}
+use Rattle.readback.proofs.Seen.{Areas, Whole}
 use Rattle.history.specs.Past.{Past}
 use Rattle.history.proofs.Tested.{and-in, or-left, or-right, upTo-all, every-drop, every-append, every-all, every-two, every-kept, every-keep, pairs-keep, same-itself, rows-at, every-numbered}
-use Rattle.history.proofs.Right.{Ground, rowsOf, uncommitted, openOf, aboveStamp, openRow, PastRight, DurableRight, LostRight, Right}
+use Rattle.history.proofs.Right.{Ground, rowsOf, uncommitted, openOf, aboveStamp, openRow, DurableRight, Right}
 
 module _ (g : Ground) (done : List (List ℕ)) (s : Lent) (d : DurableRight g done (s .durable)) where
   has-parameters : s1-parameters s ≡ true
