@@ -1,4 +1,5 @@
 -- The book, a chapter a file.
 pub mod Right
 pub mod Settle
+pub mod Pasts
 pub mod Restarts
