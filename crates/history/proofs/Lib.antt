@@ -3,6 +3,7 @@ pub mod Right
 pub mod Settle
 pub mod Pasts
 pub mod Restarts
+pub mod Aborts
 pub mod Tested
 pub mod Soundly
 pub mod Known
