@@ -2,4 +2,5 @@
 pub mod Right
 pub mod Settle
 pub mod Pasts
+pub mod Incident
 pub mod Restarts
