@@ -2,6 +2,7 @@
 pub mod Right
 pub mod Settle
 pub mod Pasts
+pub mod Incident
 pub mod Restarts
 pub mod Aborts
 pub mod Tested

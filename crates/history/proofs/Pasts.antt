@@ -23,7 +23,7 @@ use Rattle.history.specs.Past.{Past, fresh, begins, updates, commits, ab
 use Rattle.history.proofs.Right.{Ground, PastRight, rowsOf, uncommitted, openOf, openRow}
 
 -- tests of two lists, of a list with one more, of what another test leaves
-every-append : (b : List ℕ → Bool) (l m : List (List ℕ)) → every b l ≡ true → every b m ≡ true → every b (l ++ m) ≡ true
+pub every-append : (b : List ℕ → Bool) (l m : List (List ℕ)) → every b l ≡ true → every b m ≡ true → every b (l ++ m) ≡ true
 unfolding every
 every-append b [] m h k = k
 every-append b (r ∷ l) m h k =
@@ -55,7 +55,7 @@ pairs-keep b c (x ∷ l) h = pick (c x) (pairs-keep b c l (e .1))
     pick false k = k
 
 -- what passes a test passes it
-every-kept : (c : List ℕ → Bool) (l : List (List ℕ)) → every c (keep c l) ≡ true
+pub every-kept : (c : List ℕ → Bool) (l : List (List ℕ)) → every c (keep c l) ≡ true
 unfolding every keep
 every-kept c [] = refl
 every-kept c (x ∷ l) = pick (c x) refl (every-kept c l)
