@@ -5,3 +5,4 @@ pub mod Lost
 pub mod Pages
 pub mod Extremes
 pub mod Marks
+pub mod Log

@@ -7,10 +7,10 @@ use mathlib.Core.Bool.{Bool, true, false, cond, _&&_}
 use mathlib.Core.List.{List, [], _∷_}
 use lib.ListN.{length, getD, replicate, length-replicate}
 use lib.Dec.{eqb, leb}
-use borrow.Author.Tests.{eqb-true, eqb-false, eq-eqb, ne-eqb, leb-true, leb-false}
+use borrow.Author.Tests.{eqb-true, eqb-false, leb-true, leb-false}
 use Rattle.word.specs.Word.{num, put}
 use Rattle.word.proofs.Laws.{length-put}
-use Rattle.record.specs.Part.{part, withPart}
+use Rattle.record.specs.Part.{withPart}
 use Rattle.record.specs.Rows.{keep, consIf}
 use Rattle.record.specs.Record.{pageOf, numberOf, committed, committedOn, lesser, smallest, greatest}
 use Rattle.record.proofs.Laws.{num-part}
@@ -238,3 +238,236 @@ module _ (pages : ℕ) (ms : List ℕ) (h : length ms ≡ 12 + 8 * pages) where
         shut-behind (dirtyAt pages p) (omega arith)
         ∙ lowered-dirty pages rs emptied p (emptied-length ∙ h) k b
         ∙ ap (λ (x : ℕ). smallest x (keep (committedOn p) rs)) (emptied-dirty p k)
+
+-- format writes L, K and every stamp into zero bytes
+module _ (pages n last : ℕ) (h : n ≡ 12 + 8 * pages) (hl : last ≤ 4294967295) where
+  abbrev blank : List ℕ
+  blank = replicate n 0
+
+  abbrev fresh : List ℕ
+  fresh = put 4 (put 4 blank 0 last) 4 last
+
+  fresh-length : length fresh ≡ n
+  fresh-length = length-put 4 (put 4 blank 0 last) 4 last ∙ length-put 4 blank 0 last ∙ length-replicate n 0
+
+  fresh-behind : (i : ℕ) → 8 ≤ i → num 4 fresh i ≡ 0
+  fresh-behind i k = num-put-above 4 4 (put 4 blank 0 last) 4 last i (omega arith) ∙ num-put-above 4 4 blank 0 last i (omega arith) ∙ num-zeros 4 n i
+
+  abbrev made : List ℕ
+  made = stamped pages 0 last fresh
+
+  pub made-length : length made ≡ n
+  made-length = length-stamped pages 0 last fresh ∙ fresh-length
+
+  pub made-last : num 4 made 0 ≡ last
+  made-last =
+      let e : length blank ≡ n = length-replicate n 0 in
+      stamped-before pages 0 last fresh 0 (omega arith) ∙ num-put-below 4 4 (put 4 blank 0 last) 4 last 0 (omega arith) ∙ here blank 0 last (omega arith) hl
+
+  pub made-closed : num 4 made 4 ≡ last
+  made-closed =
+      let e : length (put 4 blank 0 last) ≡ n = length-put 4 blank 0 last ∙ length-replicate n 0 in
+      stamped-before pages 0 last fresh 4 (omega arith) ∙ here (put 4 blank 0 last) 4 last (omega arith) hl
+
+  pub made-logged : num 4 made 8 ≡ 0
+  made-logged = stamped-before pages 0 last fresh 8 (omega arith) ∙ fresh-behind 8 (omega arith)
+
+  pub made-stamp : (p : ℕ) → p < pages → num 4 made (stampAt p) ≡ last
+  made-stamp p k = let e : length fresh ≡ n = fresh-length in stamped-each pages 0 last fresh p (omega arith) (omega arith) (omega arith) hl
+
+  pub made-dirty : (p : ℕ) → num 4 made (dirtyAt pages p) ≡ 0
+  made-dirty p = stamped-behind pages 0 last fresh (dirtyAt pages p) (omega arith) ∙ fresh-behind (dirtyAt pages p) (omega arith)
+
+-- format writes what it was given, each number in 4 bytes
+module _ (size pages frames room span : ℕ) (r : inRange size pages frames room span ≡ true) where
+  abbrev f₁ : List ℕ
+  f₁ = put 4 (replicate 20 0) 0 size
+
+  abbrev f₂ : List ℕ
+  f₂ = put 4 f₁ 4 pages
+
+  abbrev f₃ : List ℕ
+  f₃ = put 4 f₂ 8 frames
+
+  abbrev f₄ : List ℕ
+  f₄ = put 4 f₃ 12 room
+
+  abbrev f₅ : List ℕ
+  f₅ = put 4 f₄ 16 span
+
+  within : Ranged size pages frames room span
+  within = ranged size pages frames room span r
+
+  length-three : length f₃ ≡ 20
+  length-three = length-put 4 f₂ 8 frames ∙ length-put 4 f₁ 4 pages ∙ length-put 4 (replicate 20 0) 0 size
+
+  length-five : length f₅ ≡ 20
+  length-five = length-put 4 f₄ 16 span ∙ length-put 4 f₃ 12 room ∙ length-three
+
+  -- a number before the last ones
+  before-five : (i : ℕ) → i + 4 ≤ 12 → num 4 f₅ i ≡ num 4 f₃ i
+  before-five i h = num-put-below 4 4 f₄ 16 span i (omega arith) ∙ num-put-below 4 4 f₃ 12 room i (omega arith)
+
+  size-five : num 4 f₅ 0 ≡ size
+  size-five =
+      before-five 0 (omega arith) ∙ num-put-below 4 4 f₂ 8 frames 0 (omega arith) ∙ num-put-below 4 4 f₁ 4 pages 0 (omega arith)
+      ∙ here (replicate 20 0) 0 size (omega arith) (omega (arith, within .size-most))
+
+  pages-five : num 4 f₅ 4 ≡ pages
+  pages-five =
+      let e : length f₁ ≡ 20 = length-put 4 (replicate 20 0) 0 size in
+      before-five 4 (omega arith) ∙ num-put-below 4 4 f₂ 8 frames 4 (omega arith) ∙ here f₁ 4 pages (omega arith) (omega (arith, within .pages-most))
+
+  frames-five : num 4 f₅ 8 ≡ frames
+  frames-five =
+      let e : length f₂ ≡ 20 = length-put 4 f₁ 4 pages ∙ length-put 4 (replicate 20 0) 0 size in
+      before-five 8 (omega arith) ∙ here f₂ 8 frames (omega arith) (omega (arith, within .frames-most))
+
+  room-five : num 4 f₅ 12 ≡ room
+  room-five =
+      num-put-below 4 4 f₄ 16 span 12 (omega arith) ∙ here f₃ 12 room (omega (arith, length-three)) (omega (arith, within .room-most))
+
+  span-five : num 4 f₅ 16 ≡ span
+  span-five =
+      let e : length f₄ ≡ 20 = length-put 4 f₃ 12 room ∙ length-three in
+      here f₄ 16 span (omega arith) (omega (arith, within .span-most))
+
+-- the lent bytes of a step
+module _ (s : Lent) (h : length (s .durable .marks) ≡ 12 + 8 * pagesOf s) where
+  -- commit moves L and the log's count on, no other mark
+  module _ (x : ℕ) (hl : lastOf s + length (owned s x) ≤ 4294967295) (hn : loggedOf s + length (owned s x) ≤ 4294967295) where
+    pub marks-commit : length (committing s x .lent .durable .marks) ≡ length (s .durable .marks)
+    unfolding committing
+    marks-commit = counted-length (pagesOf s) (s .durable .marks) h (lastOf s + length (owned s x)) (loggedOf s + length (owned s x)) hl hn
+
+    pub last-commit : lastOf (committing s x .lent) ≡ lastOf s + length (owned s x)
+    unfolding committing
+    last-commit = counted-last (pagesOf s) (s .durable .marks) h (lastOf s + length (owned s x)) (loggedOf s + length (owned s x)) hl hn
+
+    pub closed-commit : closedOf (committing s x .lent) ≡ closedOf s
+    unfolding committing
+    closed-commit = counted-closed (pagesOf s) (s .durable .marks) h (lastOf s + length (owned s x)) (loggedOf s + length (owned s x)) hl hn
+
+    pub logged-commit : loggedOf (committing s x .lent) ≡ loggedOf s + length (owned s x)
+    unfolding committing
+    logged-commit = counted-logged (pagesOf s) (s .durable .marks) h (lastOf s + length (owned s x)) (loggedOf s + length (owned s x)) hl hn
+
+    pub stamp-commit : (p : ℕ) → stampOf (committing s x .lent) p ≡ stampOf s p
+    unfolding committing
+    stamp-commit p = counted-behind (pagesOf s) (s .durable .marks) h (lastOf s + length (owned s x)) (loggedOf s + length (owned s x)) hl hn (stampAt p) (omega arith)
+
+    pub dirty-commit : (p : ℕ) → dirtyOf (committing s x .lent) p ≡ dirtyOf s p
+    unfolding committing
+    dirty-commit p = counted-behind (pagesOf s) (s .durable .marks) h (lastOf s + length (owned s x)) (loggedOf s + length (owned s x)) hl hn (dirtyAt (pagesOf s) p) (omega arith)
+
+  -- compact makes the page's stamp its greatest committed online number, and changes no other mark
+  module _ (p : ℕ) (k : p < pagesOf s) (hg : greatest 0 (foldable s p) ≤ 4294967295) where
+    pub marks-compact : length (compacted s p .lent .durable .marks) ≡ length (s .durable .marks)
+    unfolding compacted
+    marks-compact = restamped-length (pagesOf s) (s .durable .marks) h p (greatest 0 (foldable s p)) k hg
+
+    pub closed-compact : closedOf (compacted s p .lent) ≡ closedOf s
+    unfolding compacted
+    closed-compact = restamped-front (pagesOf s) (s .durable .marks) h p (greatest 0 (foldable s p)) k hg 4 (omega arith)
+
+    pub stamp-compact : stampOf (compacted s p .lent) p ≡ greatest 0 (foldable s p)
+    unfolding compacted
+    stamp-compact = restamped-same (pagesOf s) (s .durable .marks) h p (greatest 0 (foldable s p)) k hg
+
+    pub stamp-compact-other : (q : ℕ) → (q ≡ p → ⊥) → stampOf (compacted s p .lent) q ≡ stampOf s q
+    unfolding compacted
+    stamp-compact-other = restamped-other (pagesOf s) (s .durable .marks) h p (greatest 0 (foldable s p)) k hg
+
+    pub dirty-compact : (q : ℕ) → dirtyOf (compacted s p .lent) q ≡ dirtyOf s q
+    unfolding compacted
+    dirty-compact = restamped-dirty (pagesOf s) (s .durable .marks) h p (greatest 0 (foldable s p)) k hg
+
+  -- close makes K the last number, each dirty number the page's smallest committed online number, and takes the dropped from the log's count
+  module _ (hl : lastOf s ≤ 4294967295) (hn : loggedOf s ≤ 4294967295) where
+    fewer : loggedOf s - droppedBy s ≤ 4294967295
+    fewer = omega arith
+
+    pub marks-close : length (closed s .lent .durable .marks) ≡ length (s .durable .marks)
+    unfolding closed
+    marks-close = shut-length (pagesOf s) (s .durable .marks) h (onlineOf s) (lastOf s) (loggedOf s - droppedBy s) hl fewer
+
+    pub last-close : lastOf (closed s .lent) ≡ lastOf s
+    unfolding closed
+    last-close = shut-last (pagesOf s) (s .durable .marks) h (onlineOf s) (lastOf s) (loggedOf s - droppedBy s) hl fewer
+
+    pub closed-close : closedOf (closed s .lent) ≡ lastOf s
+    unfolding closed
+    closed-close = shut-closed (pagesOf s) (s .durable .marks) h (onlineOf s) (lastOf s) (loggedOf s - droppedBy s) hl fewer
+
+    pub logged-close : loggedOf (closed s .lent) ≡ loggedOf s - droppedBy s
+    unfolding closed
+    logged-close = shut-logged (pagesOf s) (s .durable .marks) h (onlineOf s) (lastOf s) (loggedOf s - droppedBy s) hl fewer
+
+    pub stamp-close : (p : ℕ) → p < pagesOf s → stampOf (closed s .lent) p ≡ stampOf s p
+    unfolding closed
+    stamp-close = shut-stamp (pagesOf s) (s .durable .marks) h (onlineOf s) (lastOf s) (loggedOf s - droppedBy s) hl fewer
+
+    pub dirty-close : (p : ℕ) → p < pagesOf s → every (numberAtMost 4294967295) (onlineOf s) ≡ true → dirtyOf (closed s .lent) p ≡ smallest 0 (foldable s p)
+    unfolding closed
+    dirty-close = shut-dirty (pagesOf s) (s .durable .marks) h (onlineOf s) (lastOf s) (loggedOf s - droppedBy s) hl fewer
+
+-- no page's smallest committed number is below the smallest of all, by which close drops
+pub least-of-all : (p : ℕ) (rs : List (List ℕ)) → every hasNumber (keep committed rs) ≡ true → 1 ≤ length (keep (committedOn p) rs)
+    → smallest 0 (keep committed rs) ≤ smallest 0 (keep (committedOn p) rs)
+least-of-all p rs h k = smallest-wider (committedOn p) committed (λ (r : List ℕ) (e : committedOn p r ≡ true). both (eqb (pageOf r) p) (committed r) e .1) rs h k
+
+-- format: what it was given is what is read; L, K and the stamps are the L given, the rest is 0
+module _ (s : Lent) (size pages frames room span last : ℕ) (r : inRange size pages frames room span ≡ true) where
+  pub fixed-format : length (formatted s size pages frames room span last .lent .durable .fixed) ≡ 20
+  unfolding formatted
+  fixed-format = length-five size pages frames room span r
+
+  pub size-format : sizeOf (formatted s size pages frames room span last .lent) ≡ size
+  unfolding formatted
+  size-format = size-five size pages frames room span r
+
+  pub pages-format : pagesOf (formatted s size pages frames room span last .lent) ≡ pages
+  unfolding formatted
+  pages-format = pages-five size pages frames room span r
+
+  pub frames-format : framesOf (formatted s size pages frames room span last .lent) ≡ frames
+  unfolding formatted
+  frames-format = frames-five size pages frames room span r
+
+  pub room-format : roomOf (formatted s size pages frames room span last .lent) ≡ room
+  unfolding formatted
+  room-format = room-five size pages frames room span r
+
+  pub span-format : spanOf (formatted s size pages frames room span last .lent) ≡ span
+  unfolding formatted
+  span-format = span-five size pages frames room span r
+
+  pub range-format : inRange (sizeOf (formatted s size pages frames room span last .lent)) (pagesOf (formatted s size pages frames room span last .lent)) (framesOf (formatted s size pages frames room span last .lent)) (roomOf (formatted s size pages frames room span last .lent)) (spanOf (formatted s size pages frames room span last .lent)) ≡ true
+  range-format = rw (size-format, pages-format, frames-format, room-format, span-format) r
+
+  module _ (h : length (s .durable .marks) ≡ 12 + 8 * pages) (hl : last ≤ 4294967295) where
+    pub marks-format : length (formatted s size pages frames room span last .lent .durable .marks) ≡ length (s .durable .marks)
+    unfolding formatted
+    marks-format = made-length pages (length (s .durable .marks)) last h hl
+
+    pub last-format : lastOf (formatted s size pages frames room span last .lent) ≡ last
+    unfolding formatted
+    last-format = made-last pages (length (s .durable .marks)) last h hl
+
+    pub closed-format : closedOf (formatted s size pages frames room span last .lent) ≡ last
+    unfolding formatted
+    closed-format = made-closed pages (length (s .durable .marks)) last h hl
+
+    pub logged-format : loggedOf (formatted s size pages frames room span last .lent) ≡ 0
+    unfolding formatted
+    logged-format = made-logged pages (length (s .durable .marks)) last h hl
+
+    pub stamp-format : (p : ℕ) → p < pages → stampOf (formatted s size pages frames room span last .lent) p ≡ last
+    unfolding formatted
+    stamp-format = made-stamp pages (length (s .durable .marks)) last h hl
+
+    pub dirty-format : (p : ℕ) → dirtyOf (formatted s size pages frames room span last .lent) p ≡ 0
+    unfolding formatted
+    dirty-format p =
+        ap (λ (n : ℕ). num 4 (stamped pages 0 last (put 4 (put 4 (replicate (length (s .durable .marks)) 0) 0 last) 4 last)) (dirtyAt n p)) pages-format
+        ∙ made-dirty pages (length (s .durable .marks)) last h hl p
