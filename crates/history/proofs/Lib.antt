@@ -2,3 +2,7 @@
 pub mod Right
 pub mod Settle
 pub mod Restarts
+pub mod Tested
+pub mod Soundly
+pub mod Known
+pub mod Saying

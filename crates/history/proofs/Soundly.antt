@@ -1,0 +1,353 @@
+-- Soundness follows from the invariant: each clause of "Sound tables", S1 to S20, read off what the history and the bytes keep between them.
+-- So no call after an honest use is refused as not sound.
+use Prim.Native.Nat.{ℕ, _+_, _*_, _-_, _≤_, _<_}
+use native.Mathlib.Omega.{arith}
+use mathlib.Core.Path.{_≡_, refl, sym, ap, _∙_}
+use mathlib.Core.Logic.{_⊎_, inl, inr}
+use mathlib.Core.Bool.{Bool, true, false, not, _&&_, _||_}
+use mathlib.Core.List.{List, [], _∷_, _++_}
+use lib.ListN.{length, getD, drop}
+use lib.Seq.{getD-drop}
+use lib.Dec.{eqb, leb, ltb}
+use borrow.Author.Tests.{eq-eqb, ne-eqb, eqb-true, eqb-false, le-leb, leb-true, ltb-true, not-true}
+use Rattle.record.specs.Part.{part}
+use Rattle.record.specs.Rows.{rowAt, rows, keep, any}
+use Rattle.record.specs.Record.{ownerOf, numberOf, committed, bodyOf, onPage, entered, wellFormed, shareByte}
+use Rattle.record.proofs.Laws.{getD-part}
+use Rattle.onlinecheck.proofs.Rows.{and-both, every-imp}
+use Rattle.rules.specs.Lent.{Lent, sizeOf, pagesOf, framesOf, roomOf, spanOf, lastOf, closedOf, loggedOf, stampOf, dirtyOf, firstOf, logOf, countOf, usedOf, liveOf, orderOf, entriesOf, onlineOf, isDirty}
+use Rattle.rules.specs.Sound.{every, pairs, upTo, zeros, between, inRange, agree, apart, same, serving, times, owning, exactLengths, s1-parameters, s2-lengths, s3-logged, s16-logged, s18-first, s15-stamps, s17-s19-dirty, s7-log-records, s14-log-zero, soundDurable, s3-counts, s20-live, s4-entries, s5-frame-once, s6-order, s14-order-zero, s7-online-records, s8-owners, s14-online-zero, s10-in-log, s11-above-stamp, s9-number-once, s12-dirty, s13-apart, soundLost, sound}
+use Rattle.redo.proofs.Order.{free, free-sym, pairs-imp}
+use Rattle.redo.proofs.Loose.{≅-sym, ≅-every, ≅-pairs-true}
+use Rattle.redo.proofs.Numbered.{entered-committed, entered-number, entered-bytes, numberedFrom-committed, numberedFrom-formed, numberedFrom-rising}
+use Rattle.readback.proofs.Seen.{Areas, Whole}
+use Rattle.history.specs.Past.{Past}
+use Rattle.history.proofs.Tested.{and-in, or-left, or-right, upTo-all, every-drop, every-append, every-all, every-two, every-kept, every-keep, pairs-keep, same-itself, rows-at, every-numbered}
+use Rattle.history.proofs.Right.{Ground, rowsOf, uncommitted, openOf, aboveStamp, openRow, DurableRight, Right}
+
+module _ (g : Ground) (done : List (List ℕ)) (s : Lent) (d : DurableRight g done (s .durable)) where
+  has-parameters : s1-parameters s ≡ true
+  unfolding s1-parameters
+  has-parameters = and-in (eqb (length (s .durable .fixed)) 20) (inRange (sizeOf s) (pagesOf s) (framesOf s) (roomOf s) (spanOf s)) (eq-eqb (length (s .durable .fixed)) 20 (d .fixed)) (d .range)
+
+  has-lengths : Areas s → s2-lengths s ≡ true
+  unfolding s2-lengths exactLengths
+  has-lengths a =
+      let marks : length (s .durable .marks) ≡ 12 + 8 * pagesOf s = d .marks ∙ ap (λ (n : ℕ). 12 + 8 * n) (sym (d .pages)) in
+      let stored : length (s .durable .stored) ≡ sizeOf s * pagesOf s = d .stored ∙ ap (λ (n : ℕ). n * g .pages) (sym (d .size)) ∙ ap (λ (n : ℕ). sizeOf s * n) (sym (d .pages)) in
+      rw (eq-eqb (length (s .durable .marks)) (12 + 8 * pagesOf s) marks, eq-eqb (length (s .durable .log)) (14 * spanOf s) (d .log), eq-eqb (length (s .durable .stored)) (sizeOf s * pagesOf s) stored,
+          eq-eqb (length (s .lost .tables)) (35 + framesOf s + pagesOf s) (a .tables), eq-eqb (length (s .lost .online)) (19 * roomOf s) (a .online), eq-eqb (length (s .lost .pool)) (sizeOf s * framesOf s) (a .pool))
+
+  few-logged : s3-logged s ≡ true
+  unfolding s3-logged
+  few-logged = le-leb (loggedOf s) (spanOf s) (d .logged)
+
+  logged-last : loggedOf s ≤ lastOf s
+  logged-last = omega (arith, d .logged-done, d .last)
+
+  n-below : s16-logged s ≡ true
+  unfolding s16-logged
+  n-below = le-leb (loggedOf s) (lastOf s) logged-last
+
+  first-below : s18-first s ≡ true
+  unfolding s18-first
+  first-below = le-leb (firstOf s) (closedOf s + 1) (d .first)
+
+  page-within : (p : ℕ) → p < pagesOf s → p < g .pages
+  page-within p h = omega (arith, d .pages)
+
+  stamps-below : s15-stamps s ≡ true
+  unfolding s15-stamps
+  stamps-below =
+      and-in (leb (closedOf s) (lastOf s)) (upTo (λ (p : ℕ). leb (stampOf s p) (lastOf s)) (pagesOf s) 0)
+      (le-leb (closedOf s) (lastOf s) (d .closed))
+      (upTo-all (λ (p : ℕ). leb (stampOf s p) (lastOf s)) (pagesOf s) (λ p h. le-leb (stampOf s p) (lastOf s) (d .stamps p (page-within p h))))
+
+  dirty-between : s17-s19-dirty s ≡ true
+  unfolding s17-s19-dirty
+  dirty-between = upTo-all (λ (p : ℕ). eqb (dirtyOf s p) 0 || between (firstOf s) (dirtyOf s p) (closedOf s)) (pagesOf s) (λ p h. pick p (d .dirty p (page-within p h)))
+    where
+      pick : (p : ℕ) → (dirtyOf s p ≡ 0) ⊎ ((firstOf s ≤ dirtyOf s p) × (dirtyOf s p ≤ closedOf s)) → (eqb (dirtyOf s p) 0 || between (firstOf s) (dirtyOf s p) (closedOf s)) ≡ true
+      pick p (inl e) = or-left (eqb (dirtyOf s p) 0) (between (firstOf s) (dirtyOf s p) (closedOf s)) (eq-eqb (dirtyOf s p) 0 e)
+      pick p (inr e) =
+          or-right (eqb (dirtyOf s p) 0) (between (firstOf s) (dirtyOf s p) (closedOf s))
+          (and-in (leb (firstOf s) (dirtyOf s p)) (leb (dirtyOf s p) (closedOf s)) (le-leb (firstOf s) (dirtyOf s p) (e .0)) (le-leb (dirtyOf s p) (closedOf s) (e .1)))
+
+  -- "records are well formed" of what was committed is so of the log, its end
+  log-formed : every (wellFormed (g .size) (g .pages)) done ≡ true → s7-log-records s ≡ true
+  unfolding s7-log-records
+  log-formed h =
+      ap (λ (n : ℕ). every (wellFormed n (pagesOf s)) (logOf s)) (d .size)
+      ∙ ap (λ (n : ℕ). every (wellFormed (g .size) n) (logOf s)) (d .pages)
+      ∙ ap (λ (l : List (List ℕ)). every (wellFormed (g .size) (g .pages)) l) (d .log-read)
+      ∙ every-drop (wellFormed (g .size) (g .pages)) (length done - loggedOf s) done h
+
+  log-clear : s14-log-zero s ≡ true
+  unfolding s14-log-zero
+  log-clear = d .log-zero
+
+-- what restart checks holds of the durable part, and of the lengths of the lost one
+pub durable-sound : (g : Ground) (done : List (List ℕ)) (s : Lent) → DurableRight g done (s .durable) → every (wellFormed (g .size) (g .pages)) done ≡ true → Areas s → soundDurable s ≡ true
+unfolding soundDurable
+durable-sound g done s d formed areas =
+    rw (has-parameters g done s d, has-lengths g done s d areas, few-logged g done s d, n-below g done s d, first-below g done s d, stamps-below g done s d, dirty-between g done s d, log-formed g done s d formed, log-clear g done s d)
+
+-- the lengths of the lost areas
+pub right-areas : (s : Lent) → Whole s → Areas s
+right-areas s w = w .areas
+
+-- what is said of an uncommitted record
+pub record OpenFacts (g : Ground) (live : ℕ → Bool) (r : List ℕ) : Type 0 where
+  pub formed : wellFormed (g .size) (g .pages) r ≡ true
+  pub low : 1 ≤ ownerOf r
+  pub high : ownerOf r ≤ 32
+  pub number : numberOf r ≡ 0
+  pub alive : live (ownerOf r) ≡ true
+  pub owned : committed r ≡ false
+
+pub open-facts : (g : Ground) (live : ℕ → Bool) (r : List ℕ) → openRow g live r ≡ true → OpenFacts g live r
+unfolding openRow
+open-facts g live r h =
+    let a = and-both (wellFormed (g .size) (g .pages) r && between 1 (ownerOf r) 32 && eqb (numberOf r) 0) (live (ownerOf r)) h in
+    let b = and-both (wellFormed (g .size) (g .pages) r && between 1 (ownerOf r) 32) (eqb (numberOf r) 0) (a .0) in
+    let c = and-both (wellFormed (g .size) (g .pages) r) (between 1 (ownerOf r) 32) (b .0) in
+    let d = and-both (leb 1 (ownerOf r)) (leb (ownerOf r) 32) (c .1) in
+    let low : 1 ≤ ownerOf r = leb-true 1 (ownerOf r) (d .0) in
+    record {
+      formed = c .0; low = low; high = leb-true (ownerOf r) 32 (d .1);
+      number = eqb-true (numberOf r) 0 (b .1); alive = a .1; owned = ne-eqb (ownerOf r) 0 (λ e. omega arith);
+    }
+
+-- S8 of a committed record, and of an uncommitted one
+owning-committed : (s : Lent) (r : List ℕ) → committed r ≡ true → 1 ≤ numberOf r → numberOf r ≤ lastOf s → owning s r ≡ true
+unfolding owning
+owning-committed s r e low high =
+    rw e (and-in (leb 1 (numberOf r)) (leb (numberOf r) (lastOf s)) (le-leb 1 (numberOf r) low) (le-leb (numberOf r) (lastOf s) high))
+
+owning-open : (s : Lent) (r : List ℕ) → committed r ≡ false → ownerOf r ≤ 32 → numberOf r ≡ 0 → eqb (liveOf s (ownerOf r)) 1 ≡ true → owning s r ≡ true
+unfolding owning
+owning-open s r e high n live =
+    rw e (and-in (leb (ownerOf r) 32 && eqb (numberOf r) 0) (eqb (liveOf s (ownerOf r)) 1) (and-in (leb (ownerOf r) 32) (eqb (numberOf r) 0) (le-leb (ownerOf r) 32 high) (eq-eqb (numberOf r) 0 n)) live)
+
+-- S9 of two records
+abbrev differ : List ℕ → List ℕ → Bool
+differ a b = eqb (numberOf a) 0 || not (eqb (numberOf a) (numberOf b))
+
+differ-by : (a b : List ℕ) → (numberOf a ≡ numberOf b → numberOf a ≡ 0) → differ a b ≡ true
+differ-by a b h = go (eqb (numberOf a) (numberOf b)) refl
+  where
+    go : (t : Bool) → eqb (numberOf a) (numberOf b) ≡ t → (eqb (numberOf a) 0 || not t) ≡ true
+    go true e = or-left (eqb (numberOf a) 0) false (eq-eqb (numberOf a) 0 (h (eqb-true (numberOf a) (numberOf b) e)))
+    go false e = or-right (eqb (numberOf a) 0) true refl
+
+differ-then : (a b : List ℕ) → differ a b ≡ true → numberOf a ≡ numberOf b → numberOf a ≡ 0
+differ-then a b h e = go (eqb (numberOf a) 0) refl h
+  where
+    go : (t : Bool) → eqb (numberOf a) 0 ≡ t → (t || not (eqb (numberOf a) (numberOf b))) ≡ true → numberOf a ≡ 0
+    go true k p = eqb-true (numberOf a) 0 k
+    go false k p = absurd (eqb-false (numberOf a) (numberOf b) (not-true (eqb (numberOf a) (numberOf b)) p) e)
+
+differ-sym : (a b : List ℕ) → differ a b ≡ true → differ b a ≡ true
+differ-sym a b h = differ-by b a (λ e. e ∙ differ-then a b h (sym e))
+
+-- each two differ if the first ones do and the rest have no number
+differ-append : (l m : List (List ℕ)) → pairs differ l ≡ true → every (λ (r : List ℕ). eqb (numberOf r) 0) m ≡ true → pairs differ (l ++ m) ≡ true
+unfolding pairs every
+differ-append [] [] h k = refl
+differ-append [] (r ∷ m) h k =
+    let e = and-both (eqb (numberOf r) 0) (every (λ (q : List ℕ). eqb (numberOf q) 0) m) k in
+    and-in (every (differ r) m) (pairs differ m)
+    (every-imp (λ (q : List ℕ). eqb (numberOf q) 0) (differ r) (λ q f. or-left (eqb (numberOf r) 0) (not (eqb (numberOf r) (numberOf q))) (e .0)) m (e .1))
+    (differ-append [] m h (e .1))
+differ-append (r ∷ l) m h k =
+    let e = and-both (every (differ r) l) (pairs differ l) h in
+    and-in (every (differ r) (l ++ m)) (pairs differ (l ++ m))
+    (every-append (differ r) l m (e .0) (every-imp (λ (q : List ℕ). eqb (numberOf q) 0) (differ r) (λ q f. differ-by r q (λ n. n ∙ eqb-true (numberOf q) 0 f)) m k))
+    (differ-append l m (e .1) k)
+
+-- S13: a committed record is apart from any other
+apart-sym : (a b : List ℕ) → apart a b ≡ true → apart b a ≡ true
+unfolding apart free
+apart-sym a b h = pick (committed a) (committed b) (eqb (ownerOf a) (ownerOf b)) refl h
+  where
+    pick : (x y z : Bool) → eqb (ownerOf a) (ownerOf b) ≡ z → (x || y || z || not (shareByte a b)) ≡ true → (y || x || eqb (ownerOf b) (ownerOf a) || not (shareByte b a)) ≡ true
+    pick true true z e p = refl
+    pick true false z e p = refl
+    pick false true z e p = refl
+    pick false false true e p = or-left (eqb (ownerOf b) (ownerOf a)) (not (shareByte b a)) (eq-eqb (ownerOf b) (ownerOf a) (sym (eqb-true (ownerOf a) (ownerOf b) e)))
+    pick false false false e p = or-right (eqb (ownerOf b) (ownerOf a)) (not (shareByte b a)) (free-sym a b p)
+
+apart-append : (l m : List (List ℕ)) → every committed l ≡ true → pairs apart m ≡ true → pairs apart (l ++ m) ≡ true
+unfolding pairs every apart
+apart-append [] m h k = k
+apart-append (r ∷ l) m h k =
+    let e = and-both (committed r) (every committed l) h in
+    and-in (every (apart r) (l ++ m)) (pairs apart (l ++ m)) (every-all (apart r) (λ q. rw (e .0)) (l ++ m)) (apart-append l m (e .1) k)
+
+agree-same : (a b : Bool) → a ≡ b → agree a b ≡ true
+agree-same true b e = sym e
+agree-same false b e = ap not (sym e)
+
+-- where a record above its stamp is in the log's numbers, and one in the log's numbers is the log's record
+in-log : (above within it done : Bool) → (not above || within) ≡ true → (not within || it) ≡ true → (not above || (not done || (within && it))) ≡ true
+in-log true true it true p q = q
+in-log true true it false p q = refl
+in-log true false it done p q = let z : _≡_ {A = ℕ} 0 1 = cc in absurd (omega arith)
+in-log false within it done p q = refl
+
+-- the log's record of a number
+log-at : (n logged i j : ℕ) (log : List ℕ) (done : List (List ℕ)) → rows 14 logged log 0 ≡ drop (n - logged) done → j < logged → n - logged + j ≡ i → rowAt 14 log j ≡ getD done i []
+log-at n logged i j log done e h f =
+    let z : j ≡ 0 + j = omega arith in
+    ap (λ (k : ℕ). rowAt 14 log k) z ∙ sym (rows-at 14 logged log 0 j h) ∙ ap (λ (l : List (List ℕ)). getD l j []) e ∙ getD-drop (n - logged) done j [] ∙ ap (λ (k : ℕ). getD done k []) f
+
+module _ (g : Ground) (done : List (List ℕ)) (h : Past) (s : Lent) (x : Right g done h s) where
+  -- a test that the committed records pass where they are above their pages' stamps, and the uncommitted ones pass, each online record passes
+  online-every : (c : List ℕ → Bool) → every (λ (r : List ℕ). not (aboveStamp (s .durable .marks) r) || c r) (rowsOf g done) ≡ true → every c (openOf h) ≡ true → every c (onlineOf s) ≡ true
+  online-every c p q =
+      ≅-every c (x .lost .online-is)
+      ∙ every-append c (keep (aboveStamp (s .durable .marks)) (rowsOf g done)) (openOf h) (every-kept (aboveStamp (s .durable .marks)) c (rowsOf g done) p) q
+
+  -- one that each committed record passes, by its place
+  done-every : (c : List ℕ → Bool) → ((i : ℕ) → i < length done → length (getD done i []) ≡ 14 → c (entered (getD done i []) (g .base + 1 + i)) ≡ true) → every c (rowsOf g done) ≡ true
+  done-every c f = every-numbered c (g .base + 1) done (x .past .done-wide) f
+
+  also : (c : List ℕ → Bool) → every c (rowsOf g done) ≡ true → every (λ (r : List ℕ). not (aboveStamp (s .durable .marks) r) || c r) (rowsOf g done) ≡ true
+  also c p = every-imp c (λ (r : List ℕ). not (aboveStamp (s .durable .marks) r) || c r) (λ r. or-right (not (aboveStamp (s .durable .marks) r)) (c r)) (rowsOf g done) p
+
+  -- one that follows from what is said of uncommitted records
+  open-every : (c : List ℕ → Bool) → ((r : List ℕ) → OpenFacts g (h .live) r → c r ≡ true) → every c (openOf h) ≡ true
+  open-every c f = every-imp (openRow g (h .live)) c (λ r e. f r (open-facts g (h .live) r e)) (openOf h) (x .past .open-rows)
+
+  pub done-committed : every committed (rowsOf g done) ≡ true
+  done-committed = numberedFrom-committed (g .base + 1) (x .past .done-wide)
+
+  counts-within : s3-counts s ≡ true
+  unfolding s3-counts
+  counts-within =
+      and-in (leb (countOf s) (roomOf s)) (leb (usedOf s) (framesOf s))
+      (le-leb (countOf s) (roomOf s) (omega (arith, x .whole .count, x .whole .room)))
+      (le-leb (usedOf s) (framesOf s) (omega (arith, x .whole .used, x .whole .frames)))
+
+  live-marked : s20-live s ≡ true
+  unfolding s20-live
+  live-marked = x .lost .lives-bits
+
+  entries-right : s4-entries s ≡ true
+  unfolding s4-entries
+  entries-right = x .lost .seated .entries-within
+
+  frames-once : s5-frame-once s ≡ true
+  unfolding s5-frame-once
+  frames-once = upTo-all (λ (f : ℕ). leb (serving f (entriesOf s)) 1) (framesOf s) (λ f p. le-leb (serving f (entriesOf s)) 1 (x .lost .seated .once f p))
+
+  order-right : s6-order s ≡ true
+  unfolding s6-order
+  order-right =
+      and-in (every (λ (f : ℕ). ltb f (framesOf s)) (orderOf s)) (upTo (λ (f : ℕ). eqb (times f (orderOf s)) (serving f (entriesOf s))) (framesOf s) 0)
+      (x .lost .seated .order-within)
+      (upTo-all (λ (f : ℕ). eqb (times f (orderOf s)) (serving f (entriesOf s))) (framesOf s) (λ f p. eq-eqb (times f (orderOf s)) (serving f (entriesOf s)) (x .lost .seated .named f p)))
+
+  order-clear : s14-order-zero s ≡ true
+  unfolding s14-order-zero
+  order-clear = ap (λ (n : ℕ). zeros (part (35 + n) (framesOf s - n) (s .lost .tables))) (x .whole .used) ∙ x .whole .order-zero
+
+  online-clear : s14-online-zero s ≡ true
+  unfolding s14-online-zero
+  online-clear = ap (λ (n : ℕ). zeros (drop (n * 19) (s .lost .online))) (x .whole .count) ∙ x .whole .online-zero
+
+  online-formed : s7-online-records s ≡ true
+  unfolding s7-online-records
+  online-formed =
+      ap (λ (n : ℕ). every (wellFormed n (pagesOf s)) (onlineOf s)) (x .durable .size)
+      ∙ ap (λ (n : ℕ). every (wellFormed (g .size) n) (onlineOf s)) (x .durable .pages)
+      ∙ online-every (wellFormed (g .size) (g .pages))
+        (also (wellFormed (g .size) (g .pages)) (numberedFrom-formed (g .size) (g .pages) (g .base + 1) (x .past .done-wide) (x .past .formed)))
+        (open-every (wellFormed (g .size) (g .pages)) (λ r f. f .formed))
+
+  -- the live byte of a number is its place in the live set
+  pub live-byte : (y : ℕ) → 1 ≤ y → y ≤ 32 → eqb (liveOf s y) 1 ≡ h .live y
+  live-byte y low high =
+      ap (λ (n : ℕ). eqb n 1) (ap (λ (n : ℕ). getD (s .lost .tables) n 0) (omega arith) ∙ sym (getD-part (y - 1) 3 32 (s .lost .tables) (omega arith)))
+      ∙ x .lost .alive y low high
+
+  number-of : (i : ℕ) → i < length done → length (getD done i []) ≡ 14 → numberOf (entered (getD done i []) (g .base + 1 + i)) ≡ g .base + 1 + i
+  number-of i p q = entered-number (getD done i []) (g .base + 1 + i) q (omega (arith, x .durable .last, x .durable .bound))
+
+  owners-right : s8-owners s ≡ true
+  unfolding s8-owners
+  owners-right =
+      online-every (owning s)
+      (also (owning s) (done-every (owning s) (λ i p q.
+        let n : numberOf (entered (getD done i []) (g .base + 1 + i)) ≡ g .base + 1 + i = number-of i p q in
+        owning-committed s (entered (getD done i []) (g .base + 1 + i)) (entered-committed (getD done i []) (g .base + 1 + i) q) (omega (arith, n)) (omega (arith, n, x .durable .last)))))
+      (open-every (owning s) (λ r f. owning-open s r (f .owned) (f .high) (f .number) (live-byte (ownerOf r) (f .low) (f .high) ∙ f .alive)))
+
+  -- each committed record within the log's numbers is the log's record of its number
+  abbrev is-logged : List ℕ → Bool
+  is-logged r = same (bodyOf r) (rowAt 14 (s .durable .log) (numberOf r - firstOf s))
+
+  done-logged : every (λ (r : List ℕ). not (leb (firstOf s) (numberOf r)) || is-logged r) (rowsOf g done) ≡ true
+  done-logged = done-every (λ (r : List ℕ). not (leb (firstOf s) (numberOf r)) || is-logged r) (λ i p q. pick i p q (leb (firstOf s) (numberOf (entered (getD done i []) (g .base + 1 + i)))) refl)
+    where
+      pick : (i : ℕ) → i < length done → length (getD done i []) ≡ 14 → (t : Bool) → leb (firstOf s) (numberOf (entered (getD done i []) (g .base + 1 + i))) ≡ t → (not t || is-logged (entered (getD done i []) (g .base + 1 + i))) ≡ true
+      pick i p q false e = refl
+      pick i p q true e =
+          let r : List ℕ = entered (getD done i []) (g .base + 1 + i) in
+          let n : numberOf r ≡ g .base + 1 + i = number-of i p q in
+          let f : firstOf s ≤ numberOf r = leb-true (firstOf s) (numberOf r) e in
+          let low : numberOf r - firstOf s < loggedOf s = omega (arith, n, f, x .durable .last, x .durable .logged-done) in
+          let at : length done - loggedOf s + (numberOf r - firstOf s) ≡ i = omega (arith, n, f, x .durable .last, x .durable .logged-done) in
+          ap (λ (b : List ℕ). same b (rowAt 14 (s .durable .log) (numberOf r - firstOf s))) (entered-bytes (getD done i []) (g .base + 1 + i) q)
+          ∙ ap (λ (b : List ℕ). same (getD done i []) b) (log-at (length done) (loggedOf s) i (numberOf r - firstOf s) (s .durable .log) done (x .durable .log-read) low at)
+          ∙ same-itself (getD done i [])
+
+  online-logged : s10-in-log s ≡ true
+  unfolding s10-in-log
+  online-logged =
+      online-every (λ (r : List ℕ). not (committed r) || (leb (firstOf s) (numberOf r) && is-logged r))
+      (every-two (λ (r : List ℕ). not (aboveStamp (s .durable .marks) r) || leb (firstOf s) (numberOf r)) (λ (r : List ℕ). not (leb (firstOf s) (numberOf r)) || is-logged r)
+        (λ (r : List ℕ). not (aboveStamp (s .durable .marks) r) || (not (committed r) || (leb (firstOf s) (numberOf r) && is-logged r)))
+        (λ r p q. in-log (aboveStamp (s .durable .marks) r) (leb (firstOf s) (numberOf r)) (is-logged r) (committed r) p q)
+        (rowsOf g done) (x .durable .needed) done-logged)
+      (open-every (λ (r : List ℕ). not (committed r) || (leb (firstOf s) (numberOf r) && is-logged r)) (λ r f. or-left (not (committed r)) (leb (firstOf s) (numberOf r) && is-logged r) (ap not (f .owned))))
+
+  online-above : s11-above-stamp s ≡ true
+  unfolding s11-above-stamp
+  online-above =
+      online-every (λ (r : List ℕ). not (committed r) || aboveStamp (s .durable .marks) r)
+      (every-all (λ (r : List ℕ). not (aboveStamp (s .durable .marks) r) || (not (committed r) || aboveStamp (s .durable .marks) r)) (λ r. pick (aboveStamp (s .durable .marks) r) (committed r)) (rowsOf g done))
+      (open-every (λ (r : List ℕ). not (committed r) || aboveStamp (s .durable .marks) r) (λ r f. or-left (not (committed r)) (aboveStamp (s .durable .marks) r) (ap not (f .owned))))
+    where
+      pick : (a c : Bool) → (not a || (not c || a)) ≡ true
+      pick true true = refl
+      pick true false = refl
+      pick false c = refl
+
+  number-once : s9-number-once s ≡ true
+  unfolding s9-number-once
+  number-once =
+      ≅-pairs-true differ differ-sym (≅-sym (x .lost .online-is))
+      (differ-append (keep (aboveStamp (s .durable .marks)) (rowsOf g done)) (openOf h)
+        (pairs-keep (aboveStamp (s .durable .marks)) differ (rowsOf g done) (pairs-imp (λ (a b : List ℕ). ltb (numberOf a) (numberOf b)) differ (λ a b e. differ-by a b (λ n. absurd (omega (arith, ltb-true (numberOf a) (numberOf b) e)))) (rowsOf g done) (numberedFrom-rising (g .base + 1) (x .past .done-wide) (omega (arith, x .durable .last, x .durable .bound)))))
+        (open-every (λ (r : List ℕ). eqb (numberOf r) 0) (λ r f. eq-eqb (numberOf r) 0 (f .number))))
+
+  dirty-right : s12-dirty s ≡ true
+  unfolding s12-dirty
+  dirty-right =
+      upTo-all (λ (p : ℕ). agree (isDirty (getD (entriesOf s) p 0)) (any (onPage p) (onlineOf s))) (pagesOf s)
+      (λ p k. agree-same (isDirty (getD (entriesOf s) p 0)) (any (onPage p) (onlineOf s)) (x .lost .dirty p (page-within g done s (x .durable) p k)))
+
+  online-apart : s13-apart s ≡ true
+  unfolding s13-apart
+  online-apart =
+      ≅-pairs-true apart apart-sym (≅-sym (x .lost .online-is))
+      (apart-append (keep (aboveStamp (s .durable .marks)) (rowsOf g done)) (openOf h) (every-keep (aboveStamp (s .durable .marks)) committed (rowsOf g done) done-committed) (x .past .apart))
+
+-- what every call but format and restart checks
+pub right-sound : (g : Ground) (done : List (List ℕ)) (h : Past) (s : Lent) → Right g done h s → sound s ≡ true
+unfolding sound soundLost
+right-sound g done h s x =
+    and-in (soundDurable s) (soundLost s) (durable-sound g done s (x .durable) (x .past .formed) (x .whole .areas))
+    (rw (counts-within g done h s x, live-marked g done h s x, entries-right g done h s x, frames-once g done h s x, order-right g done h s x, order-clear g done h s x, online-formed g done h s x, owners-right g done h s x, online-clear g done h s x,
+      online-logged g done h s x, online-above g done h s x, number-once g done h s x, dirty-right g done h s x, online-apart g done h s x))

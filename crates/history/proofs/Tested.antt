@@ -1,0 +1,134 @@
+-- Tests of every row, of each two, of one at least: of rows appended, of rows kept, and of committed rows as the log's records make them.
+-- Soundness is such tests, and the invariant names its rows as appended, kept and numbered ones.
+use Prim.Native.Nat.{ℕ, zero, suc, _+_, _<_}
+use native.Mathlib.Omega.{arith}
+use mathlib.Core.Path.{_≡_, refl, ap, _∙_}
+use mathlib.Core.Bool.{Bool, true, false, not, _&&_, _||_}
+use mathlib.Core.List.{List, [], _∷_, _++_}
+use lib.ListN.{length, getD, drop}
+use lib.Dec.{eqb}
+use borrow.Author.Tests.{eq-eqb, not-true}
+use Rattle.record.specs.Rows.{rowAt, rows, keep, consIf, any}
+use Rattle.record.specs.Record.{entered}
+use Rattle.onlinecheck.proofs.Rows.{and-both, every-imp}
+use Rattle.table.proofs.Laws.{Wide, none, one, keep-no}
+use Rattle.rules.specs.Sound.{every, pairs, upTo, same}
+use Rattle.redo.proofs.Loose.{numberedFrom}
+
+-- tests together, and a test that holds on one side
+pub and-in : (a b : Bool) → a ≡ true → b ≡ true → (a && b) ≡ true
+and-in a b h k = rw (h, k)
+
+pub or-left : (a b : Bool) → a ≡ true → (a || b) ≡ true
+or-left a b h = rw h
+
+pub or-right : (a b : Bool) → b ≡ true → (a || b) ≡ true
+or-right true b h = refl
+or-right false b h = h
+
+pub or-of : (a b : Bool) → a ≡ true → (not a || b) ≡ true → b ≡ true
+or-of true b h k = k
+or-of false b h k = let z : _≡_ {A = ℕ} 0 1 = cc in absurd (omega arith)
+
+-- each of n numbers passes a test
+upTo-from : (b : ℕ → Bool) (n a : ℕ) → ((i : ℕ) → i < n → b (a + i) ≡ true) → upTo b n a ≡ true
+unfolding upTo
+upTo-from b zero a h = refl
+upTo-from b (suc n) a h =
+    and-in (b a) (upTo b n (a + 1))
+    (ap b (omega arith) ∙ h 0 (omega arith))
+    (upTo-from b n (a + 1) (λ i k. ap b (omega arith) ∙ h (suc i) (omega arith)))
+
+pub upTo-all : (b : ℕ → Bool) (n : ℕ) → ((i : ℕ) → i < n → b i ≡ true) → upTo b n 0 ≡ true
+upTo-all b n h = upTo-from b n 0 (λ i k. ap b (omega arith) ∙ h i k)
+
+-- every row: behind some, all, appended, two tests at once
+pub every-drop : (b : List ℕ → Bool) (n : ℕ) (l : List (List ℕ)) → every b l ≡ true → every b (drop n l) ≡ true
+unfolding every
+every-drop b zero l h = h
+every-drop b (suc n) [] h = h
+every-drop b (suc n) (r ∷ l) h = every-drop b n l (and-both (b r) (every b l) h .1)
+
+pub every-all : (b : List ℕ → Bool) → ((r : List ℕ) → b r ≡ true) → (l : List (List ℕ)) → every b l ≡ true
+unfolding every
+every-all b f [] = refl
+every-all b f (r ∷ l) = and-in (b r) (every b l) (f r) (every-all b f l)
+
+pub every-append : (b : List ℕ → Bool) (l m : List (List ℕ)) → every b l ≡ true → every b m ≡ true → every b (l ++ m) ≡ true
+unfolding every
+every-append b [] m h k = k
+every-append b (r ∷ l) m h k =
+    let e : (b r ≡ true) × (every b l ≡ true) = and-both (b r) (every b l) h in
+    and-in (b r) (every b (l ++ m)) (e .0) (every-append b l m (e .1) k)
+
+pub every-two : (a b c : List ℕ → Bool) → ((r : List ℕ) → a r ≡ true → b r ≡ true → c r ≡ true) → (l : List (List ℕ)) → every a l ≡ true → every b l ≡ true → every c l ≡ true
+unfolding every
+every-two a b c f [] h k = refl
+every-two a b c f (r ∷ l) h k =
+    let d : (a r ≡ true) × (every a l ≡ true) = and-both (a r) (every a l) h in
+    let e : (b r ≡ true) × (every b l ≡ true) = and-both (b r) (every b l) k in
+    and-in (c r) (every c l) (f r (d .0) (e .0)) (every-two a b c f l (d .1) (e .1))
+
+-- those kept pass the test that kept them, and whatever follows from it
+pub every-kept : (a c : List ℕ → Bool) (l : List (List ℕ)) → every (λ (r : List ℕ). not (a r) || c r) l ≡ true → every c (keep a l) ≡ true
+unfolding every keep
+every-kept a c [] h = refl
+every-kept a c (r ∷ l) h =
+    let e : ((not (a r) || c r) ≡ true) × (every (λ (q : List ℕ). not (a q) || c q) l ≡ true) = and-both (not (a r) || c r) (every (λ (q : List ℕ). not (a q) || c q) l) h in
+    pick (a r) refl (e .0) (every-kept a c l (e .1))
+  where
+    pick : (t : Bool) → a r ≡ t → (not (a r) || c r) ≡ true → every c (keep a l) ≡ true → every c (consIf t r (keep a l)) ≡ true
+    pick true e h k = and-in (c r) (every c (keep a l)) (or-of (a r) (c r) e h) k
+    pick false e h k = k
+
+pub every-keep : (a c : List ℕ → Bool) (l : List (List ℕ)) → every c l ≡ true → every c (keep a l) ≡ true
+every-keep a c l h = every-kept a c l (every-imp c (λ (r : List ℕ). not (a r) || c r) (λ r. or-right (not (a r)) (c r)) l h)
+
+-- each two: of those kept; appended to ones that each pass with all that follow
+pub pairs-keep : (a : List ℕ → Bool) (b : List ℕ → List ℕ → Bool) (l : List (List ℕ)) → pairs b l ≡ true → pairs b (keep a l) ≡ true
+unfolding pairs keep
+pairs-keep a b [] h = refl
+pairs-keep a b (r ∷ l) h =
+    let e : (every (b r) l ≡ true) × (pairs b l ≡ true) = and-both (every (b r) l) (pairs b l) h in
+    pick (a r) (every-keep a (b r) l (e .0)) (pairs-keep a b l (e .1))
+  where
+    pick : (t : Bool) → every (b r) (keep a l) ≡ true → pairs b (keep a l) ≡ true → pairs b (consIf t r (keep a l)) ≡ true
+    pick true h k = and-in (every (b r) (keep a l)) (pairs b (keep a l)) h k
+    pick false h k = k
+
+-- rows of which none passes, before others
+pub any-behind : (c : List ℕ → Bool) (l m : List (List ℕ)) → every (λ (r : List ℕ). not (c r)) l ≡ true → any c (l ++ m) ≡ any c m
+unfolding every any
+any-behind c [] m h = refl
+any-behind c (r ∷ l) m h =
+    let e : (not (c r) ≡ true) × (every (λ (q : List ℕ). not (c q)) l ≡ true) = and-both (not (c r)) (every (λ (q : List ℕ). not (c q)) l) h in
+    ap (λ (t : Bool). t || any c (l ++ m)) (not-true (c r) (e .0)) ∙ any-behind c l m (e .1)
+
+pub keep-behind : (c : List ℕ → Bool) (l m : List (List ℕ)) → every (λ (r : List ℕ). not (c r)) l ≡ true → keep c (l ++ m) ≡ keep c m
+unfolding every
+keep-behind c [] m h = refl
+keep-behind c (r ∷ l) m h =
+    let e : (not (c r) ≡ true) × (every (λ (q : List ℕ). not (c q)) l ≡ true) = and-both (not (c r)) (every (λ (q : List ℕ). not (c q)) l) h in
+    keep-no c r (l ++ m) (not-true (c r) (e .0)) ∙ keep-behind c l m (e .1)
+
+-- a row is the same as itself
+pub same-itself : (l : List ℕ) → same l l ≡ true
+unfolding same
+same-itself [] = refl
+same-itself (x ∷ l) = and-in (eqb x x) (same l l) (eq-eqb x x refl) (same-itself l)
+
+-- row i of the first n
+pub rows-at : (w n : ℕ) (t : List ℕ) (k i : ℕ) → i < n → getD (rows w n t k) i [] ≡ rowAt w t (k + i)
+unfolding rows
+rows-at w zero t k i p = absurd (omega arith)
+rows-at w (suc n) t k zero p = ap (λ (j : ℕ). rowAt w t j) (omega arith)
+rows-at w (suc n) t k (suc i) p = rows-at w n t (k + 1) i (omega arith) ∙ ap (λ (j : ℕ). rowAt w t j) (omega arith)
+
+-- what each of the rows that log records make passes
+pub every-numbered : (c : List ℕ → Bool) (k : ℕ) (l : List (List ℕ)) → Wide 14 l → ((i : ℕ) → i < length l → length (getD l i []) ≡ 14 → c (entered (getD l i []) (k + i)) ≡ true) → every c (numberedFrom k l) ≡ true
+unfolding every numberedFrom
+every-numbered c k [] none h = refl
+every-numbered c k (b ∷ l) (one e w) h =
+    and-in (c (entered b k)) (every c (numberedFrom (k + 1) l))
+    (ap (λ (n : ℕ). c (entered b n)) (omega arith) ∙ h 0 (omega arith) e)
+    (every-numbered c (k + 1) l w (λ i p q. ap (λ (n : ℕ). c (entered (getD l i []) n)) (omega arith) ∙ h (suc i) (omega arith) q))
