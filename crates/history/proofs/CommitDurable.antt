@@ -2,10 +2,10 @@
 -- and no stored page has them, as they are numbered above every stamp.
 use Prim.Native.Nat.{ℕ, _+_, _*_, _-_, _≤_, _<_}
 use native.Mathlib.Omega.{arith}
-use mathlib.Core.Path.{_≡_, refl, sym, ap, _∙_}
+use mathlib.Core.Path.{_≡_, sym, ap, _∙_}
 use mathlib.Core.Logic.{_⊎_, inl, inr}
-use mathlib.Core.Bool.{Bool, true, false, not, _&&_, _||_, and-false}
-use mathlib.Core.List.{List, [], _∷_, _++_, map, append-nil}
+use mathlib.Core.Bool.{Bool, true, not, _&&_, _||_, and-false}
+use mathlib.Core.List.{List, _++_, map, append-nil}
 use lib.ListN.{length, drop, length-append, length-map}
 use lib.Seq.{drop-append-le}
 use lib.Dec.{eqb, leb, ltb}
@@ -13,8 +13,8 @@ use borrow.Author.Tests.{leb-true, ltb-true, lt-ltb, le-leb, lt-leb}
 use Rattle.word.specs.Word.{num}
 use Rattle.record.specs.Rows.{keep}
 use Rattle.record.specs.Record.{pageOf, numberOf, bodyOf, applied, onPage, ownedBy, wellFormed}
-use Rattle.table.proofs.Laws.{Wide, keep-length, wide-keep, wide-bodies}
-use Rattle.rules.specs.Lent.{Lent, sizeOf, pagesOf, framesOf, roomOf, spanOf, lastOf, closedOf, loggedOf, firstOf, stampAt, stampOf, dirtyOf, logOf, onlineOf, pageIn}
+use Rattle.table.proofs.Laws.{Wide, wide-keep, wide-bodies}
+use Rattle.rules.specs.Lent.{Lent, sizeOf, pagesOf, framesOf, roomOf, spanOf, lastOf, closedOf, loggedOf, firstOf, stampAt, dirtyOf, logOf, onlineOf, pageIn}
 use Rattle.rules.specs.Steps.{owned, committing}
 use Rattle.rules.specs.Sound.{every}
 use Rattle.onlinecheck.proofs.Rows.{and-both, every-imp}
@@ -27,7 +27,7 @@ use Rattle.redo.proofs.Numbered.{numberedFrom-append, numberedFrom-length, numb
 use Rattle.readback.proofs.Marks.{marks-commit, last-commit, closed-commit, logged-commit, stamp-commit, dirty-commit}
 use Rattle.readback.proofs.Log.{log-commit, log-zero-commit, log-length-commit}
 use Rattle.history.specs.Past.{Past}
-use Rattle.history.proofs.Tested.{or-left, or-right, every-append, every-two}
+use Rattle.history.proofs.Tested.{or-right, every-append, every-two}
 use Rattle.history.proofs.Right.{Ground, Right, DurableRight, rowsOf, openOf, aboveStamp}
 
 -- of records numbered on from L: each number is above L

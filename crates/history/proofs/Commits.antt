@@ -4,14 +4,14 @@ use native.Mathlib.Omega.{arith}
 use mathlib.Core.Path.{_≡_, refl, sym, ap, _∙_, subst}
 use mathlib.Core.Bool.{Bool, true, false, not, _&&_, _||_}
 use mathlib.Core.List.{List, _++_, map, append-assoc}
-use lib.ListN.{length, getD, drop, set, length-set}
+use lib.ListN.{length, getD, set, length-set}
 use lib.Seq.{drop-append-seam, getD-set-same, getD-set-other}
 use lib.Dec.{eqb, leb}
 use borrow.Author.Tests.{eqb-true, eqb-false}
 use Rattle.record.specs.Rows.{keep, any}
-use Rattle.record.specs.Record.{committed, bodyOf, applied, onPage, ownedBy, numberRows, wellFormed}
+use Rattle.record.specs.Record.{committed, bodyOf, onPage, ownedBy, numberRows, wellFormed}
 use Rattle.table.proofs.Laws.{Wide, keep-length}
-use Rattle.rules.specs.Lent.{Lent, framesOf, spanOf, lastOf, loggedOf, orderOf, entriesOf, onlineOf, inFrame, frameOf, isDirty, pageIn}
+use Rattle.rules.specs.Lent.{Lent, framesOf, spanOf, lastOf, loggedOf, orderOf, entriesOf, onlineOf, inFrame, pageIn}
 use Rattle.rules.specs.Steps.{owned, committing}
 use Rattle.rules.specs.Sound.{every, pairs, apart}
 use Rattle.onlinecheck.proofs.Rows.{every-imp}
