@@ -9,3 +9,5 @@ pub mod Tested
 pub mod Soundly
 pub mod Known
 pub mod Saying
+pub mod CommitDurable
+pub mod Commits
