@@ -3,3 +3,5 @@ pub mod Right
 pub mod Settle
 pub mod Pasts
 pub mod Restarts
+pub mod Begins
+pub mod Fetches
