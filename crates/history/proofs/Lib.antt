@@ -11,3 +11,5 @@ pub mod Known
 pub mod Saying
 pub mod CommitDurable
 pub mod Commits
+pub mod Begins
+pub mod Fetches
