@@ -1,6 +1,7 @@
 -- The book, a chapter a file.
 pub mod Right
 pub mod Settle
+pub mod Pasts
 pub mod Restarts
 pub mod Tested
 pub mod Soundly
