@@ -11,12 +11,11 @@ use lib.Dec.{eqb}
 use borrow.Author.Tests.{eqb-true}
 use Rattle.record.specs.Rows.{keep, any}
 use Rattle.record.specs.Record.{applied}
-use Rattle.table.proofs.Laws.{none}
 use Rattle.rules.specs.declared.Bad.the-variants.{Parameter, Lent as LentLength}
 use Rattle.rules.specs.declared.Refusal.the-variants.{Argument}
 use Rattle.rules.specs.declared.Verdict.the-variants.{Go}
 use Rattle.rules.specs.Lent.{Lent, framesOf, lastOf, closedOf, loggedOf, inFrame, isDirty}
-use Rattle.rules.specs.Sound.{every, pairs, inRange, exactLengths}
+use Rattle.rules.specs.Sound.{every, inRange, exactLengths}
 use Rattle.rules.specs.Steps.{formatted}
 use Rattle.rules.specs.Calls.{refuseIf, judgeFormat}
 use Rattle.rules.proofs.Verdicts.{went, holds}
@@ -27,7 +26,8 @@ use Rattle.readback.proofs.Marks.{fixed-format, size-format, pages-format, fram
 use Rattle.readback.proofs.Log.{log-format, log-zero-format, log-length-format}
 use Rattle.readback.proofs.Lost.{reads-formatted}
 use Rattle.history.specs.Past.{fresh}
-use Rattle.history.proofs.Right.{Ground, PastRight, DurableRight, LostRight, Right}
+use Rattle.history.proofs.Right.{Ground, DurableRight, LostRight, Right}
+use Rattle.history.proofs.Pasts.{past-fresh}
 use Rattle.history.proofs.Settle.{settle}
 
 -- the lengths that format asks of the lent areas
@@ -70,24 +70,6 @@ format-went s size pages frames room span e =
     let a = went (not (inRange size pages frames room span)) (Argument Parameter) (refuseIf (not fits) (Argument LentLength) Go) e in
     let b = went (not fits) (Argument LentLength) Go (a .1) in
     (holds (inRange size pages frames room span) (a .0), lengths-of s size pages frames room span (and-both (eqb (length (s .durable .fixed)) 20) (exactLengths s size pages frames room span) (holds fits (b .0)) .1))
-
--- a new history
-past-new : (size pages last : ℕ) (start : List ℕ) → last ≤ 4294967295 → PastRight (record { size = size; pages = pages; start = start; base = last }) [] (fresh size pages last start)
-unfolding fresh keep every pairs numberedFrom
-past-new size pages last start m =
-    record {
-      size = refl;
-      pages = refl;
-      start = refl;
-      last = omega arith;
-      bound = m;
-      made = still;
-      formed = refl;
-      done-wide = none;
-      open-rows = refl;
-      open-wide = none;
-      apart = refl;
-    }
 
 -- zero bytes: no number is live, and every page is absent
 zero-at : (n i : ℕ) → _≡_ {A = ℕ} (getD (replicate n 0) i 0) 0
@@ -160,6 +142,6 @@ module _ (s : Lent) (size pages frames room span last : ℕ) (m : last ≤ 42949
   format-right =
       settle
       (reads-formatted s size pages frames room span last (long .tables) (long .online) (long .pool) (size-format s size pages frames room span last ranged) (pages-format s size pages frames room span last ranged) (frames-format s size pages frames room span last ranged) (room-format s size pages frames room span last ranged))
-      (past-new size pages last (s .durable .stored) m)
+      (past-fresh size pages last (s .durable .stored) m)
       durable-new
       (lost-new size pages last (framesOf new) (s .durable .stored) (new .durable .marks) (s .durable .stored) (s .lost .pool))

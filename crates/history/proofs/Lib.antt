@@ -8,3 +8,4 @@ pub mod Soundly
 pub mod Known
 pub mod Saying
 pub mod Formats
+pub mod Twins
