@@ -13,3 +13,5 @@ pub mod CommitDurable
 pub mod Commits
 pub mod Begins
 pub mod Fetches
+pub mod Formats
+pub mod Twins

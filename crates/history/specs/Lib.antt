@@ -2,3 +2,4 @@
 pub mod Past
 pub mod Run
 pub mod Saying
+pub mod Twins
