@@ -6,3 +6,4 @@ pub mod Tested
 pub mod Soundly
 pub mod Known
 pub mod Saying
+pub mod Folding
