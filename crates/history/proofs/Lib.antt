@@ -7,3 +7,4 @@ pub mod Soundly
 pub mod Known
 pub mod Saying
 pub mod Folding
+pub mod Restamped
