@@ -8,3 +8,4 @@ pub mod Known
 pub mod Saying
 pub mod Folding
 pub mod Restamped
+pub mod Compacts
