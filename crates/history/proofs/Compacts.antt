@@ -1,5 +1,5 @@
 -- Compact keeps what is right: the page's committed records are folded into its stored page, and its frame, if it keeps one, shows the same page.
-use Prim.Native.Nat.{ℕ, _+_, _*_, _≤_, _<_}
+use Prim.Native.Nat.{ℕ, _+_, _-_, _≤_, _<_}
 use native.Mathlib.Omega.{arith}
 use mathlib.Core.Path.{_≡_, refl, sym, ap, _∙_, subst}
 use mathlib.Core.Bool.{Bool, true, false, cond, not, _&&_, _||_, true≢false}
@@ -8,11 +8,12 @@ use lib.ListN.{length, getD, set, length-set}
 use lib.Seq.{getD-set-same, getD-set-other}
 use lib.Dec.{eqb, leb, ltb}
 use borrow.Author.Tests.{leb-true, le-leb, ltb-true, eqb-true, eqb-false}
+use Rattle.word.specs.Word.{num}
 use Rattle.record.specs.Rows.{keep, any}
-use Rattle.record.specs.Record.{numberOf, committed, applied, onPage, committedOn, greatest}
+use Rattle.record.specs.Record.{numberOf, committed, applied, onPage, committedOn, smallest, greatest}
 use Rattle.apply.proofs.Laws.{length-applied}
 use Rattle.table.proofs.Laws.{keep-length}
-use Rattle.rules.specs.Lent.{Lent, sizeOf, pagesOf, framesOf, roomOf, spanOf, lastOf, entryOf, entriesOf, orderOf, onlineOf, inFrame, frameOf, isDirty, cleanIn, pageIn}
+use Rattle.rules.specs.Lent.{Durable, Lent, sizeOf, pagesOf, framesOf, roomOf, spanOf, lastOf, stampAt, entryOf, entriesOf, orderOf, onlineOf, inFrame, frameOf, isDirty, cleanIn, pageIn}
 use Rattle.rules.specs.Sound.{every, pairs}
 use Rattle.rules.specs.Steps.{freedOf, foldable, due, fromFrame, compactedPage, compactedEntry, compactedOrder, unfolded, compacted}
 use Rattle.onlinecheck.proofs.Rows.{and-both, every-imp}
@@ -27,7 +28,7 @@ use Rattle.readback.proofs.Pages.{page-length}
 use Rattle.readback.proofs.Seen.{livesOf}
 use Rattle.readback.proofs.Lost.{entry-whole, reads-compacted}
 use Rattle.history.specs.Past.{Past}
-use Rattle.history.proofs.Right.{Ground, PastRight, DurableRight, LostRight, Right, rowsOf, uncommitted, openOf, aboveStamp}
+use Rattle.history.proofs.Right.{Ground, PastRight, DurableRight, LostRight, Right, rowsOf, uncommitted, openOf, openRow, aboveStamp}
 use Rattle.history.proofs.Settle.{settle}
 use Rattle.history.proofs.Soundly.{open-facts}
 use Rattle.history.proofs.Folding.{stays, stays-page, stays-none, all-committed, stays-other, stays-any, folded-most, above-now, fewer-above, stays-now, page-now}
@@ -139,3 +140,97 @@ module _ {g : Ground} {done opened : List (List ℕ)} {live : ℕ → Bool} {fra
         pick true true a b = kept-clean a b
         pick true false a b = let-go true a
         pick false f a b = let-go false a
+
+-- something is to be folded where compact is due
+due-some : (s : Lent) (p minDel maxAge : ℕ) → due s p minDel maxAge ≡ true → 1 ≤ length (foldable s p)
+unfolding due
+due-some s p minDel maxAge h = leb-true 1 (length (foldable s p)) (and-both (leb 1 (length (foldable s p))) (leb minDel (length (foldable s p)) || leb maxAge (lastOf s - smallest 0 (foldable s p))) h .0)
+
+module _ {g : Ground} {done : List (List ℕ)} {h : Past} {s : Lent} (r : Right g done h s) (p : ℕ) (m : p < pagesOf s) (some : 1 ≤ length (foldable s p)) where
+  below : p < g .pages
+  below = omega (arith, r .durable .pages)
+
+  -- the committed updates
+  all-committed-rows : every committed (rowsOf g done) ≡ true
+  all-committed-rows = numberedFrom-committed (g .base + 1) (r .past .done-wide)
+
+  numbers-fit : g .base + 1 + length done ≤ 4294967296
+  numbers-fit = omega (arith, r .durable .last, r .durable .bound)
+
+  rows-rising : pairs rising (rowsOf g done) ≡ true
+  rows-rising = numberedFrom-rising (g .base + 1) (r .past .done-wide) numbers-fit
+
+  rows-most : every (numberAtMost (lastOf s)) (rowsOf g done) ≡ true
+  rows-most =
+      every-imp (λ (x : List ℕ). leb (g .base + 1) (numberOf x) && ltb (numberOf x) (g .base + 1 + length done)) (numberAtMost (lastOf s))
+      (λ x e. le-leb (numberOf x) (lastOf s) (omega (arith, r .durable .last, ltb-true (numberOf x) (g .base + 1 + length done) (and-both (leb (g .base + 1) (numberOf x)) (ltb (numberOf x) (g .base + 1 + length done)) e .1))))
+      (rowsOf g done) (numberedFrom-from (g .base + 1) (r .past .done-wide) numbers-fit)
+
+  opened-open : every uncommitted (openOf h) ≡ true
+  opened-open = every-imp (openRow g (h .live)) uncommitted (λ x e. ap not (open-facts g (h .live) x e .owned)) (openOf h) (r .past .open-rows)
+
+  -- the new stamp, and the page as it is written
+  abbrev stamp : ℕ
+  stamp = greatest 0 (foldable s p)
+
+  stamp-most : stamp ≤ lastOf s
+  stamp-most = folded-most p (aboveStamp (s .durable .marks)) (rowsOf g done) (openOf h) (onlineOf s) all-committed-rows opened-open (r .lost .online-is) (lastOf s) rows-most
+
+  abbrev was : List ℕ
+  was = pageIn (g .size) p (s .durable .stored)
+
+  page-written : compactedPage s p ≡ applied (foldable s p) was
+  unfolding compactedPage fromFrame
+  page-written =
+      ap (λ (n : ℕ). cond (all && inFrame (entryOf s p)) (pageIn n (frameOf (entryOf s p)) (s .lost .pool)) (applied (foldable s p) (pageIn n p (s .durable .stored)))) (r .durable .size)
+      ∙ ap (λ (e : ℕ). cond (all && inFrame e) (pageIn (g .size) (frameOf e) (s .lost .pool)) (applied (foldable s p) was)) (entry-whole s p (r .whole) m)
+      ∙ folded-written (r .lost) p below
+    where
+      all : Bool
+      all = eqb (length (foldable s p)) (length (keep (onPage p) (onlineOf s)))
+
+  page-long : length (compactedPage s p) ≡ g .size
+  page-long = ap (λ (x : List ℕ). length x) page-written ∙ length-applied (foldable s p) was ∙ page-length (g .size) (g .pages) (s .durable .stored) (r .durable .stored) p below
+
+  -- the durable part that it leaves
+  abbrev after : Durable
+  after = restamped g done (s .durable) (r .durable) p stamp (compactedPage s p) below stamp-most page-long
+
+  here : num 4 (after .marks) (stampAt p) ≡ stamp
+  here = stamp-here g done (s .durable) (r .durable) p stamp (compactedPage s p) below stamp-most page-long
+
+  other : (q : ℕ) → (q ≡ p → ⊥) → num 4 (after .marks) (stampAt q) ≡ num 4 (s .durable .marks) (stampAt q)
+  other = stamp-other g done (s .durable) (r .durable) p stamp (compactedPage s p) below stamp-most page-long
+
+  compact-durable : DurableRight g done after
+  compact-durable =
+      restamped-right g done (s .durable) (r .durable) p stamp (compactedPage s p) below stamp-most page-long
+      (fewer-above p (s .durable .marks) (after .marks) (rowsOf g done) (openOf h) (onlineOf s) all-committed-rows opened-open (r .lost .online-is) some here other)
+      (let e = above-now p (s .durable .marks) (after .marks) (rowsOf g done) (openOf h) (onlineOf s) all-committed-rows opened-open (r .lost .online-is) some here other in
+       rw e (keep-length (λ (x : List ℕ). not (onPage p x)) (keep (aboveStamp (s .durable .marks)) (rowsOf g done))))
+      (page-written
+      ∙ ap (λ (x : List ℕ). applied (foldable s p) x) (r .durable .page p below)
+      ∙ page-now p (s .durable .marks) (after .marks) (rowsOf g done) (openOf h) (onlineOf s) all-committed-rows opened-open (r .lost .online-is) some here other rows-rising (pageIn (g .size) p (g .start)))
+
+  compact-lost : LostRight g done (openOf h) (h .live) (framesOf s) (after .marks) (after .stored) (s .lost .pool) (compactedOrder s p) (livesOf s) (set (entriesOf s) p (compactedEntry s p)) (unfolded s p)
+  unfolding compactedOrder compactedEntry fromFrame
+  compact-lost =
+      subst
+      (λ (e : ℕ). LostRight g done (openOf h) (h .live) (framesOf s) (after .marks) (after .stored) (s .lost .pool) (cond (all && inFrame e) (orderOf s) (freedOf e (orderOf s))) (livesOf s) (set (entriesOf s) p (cond (all && inFrame e) (cleanIn (frameOf e)) (cond all 0 1))) (unfolded s p))
+      (sym (entry-whole s p (r .whole) m))
+      (folded-lost (r .lost) p below (after .marks) (after .stored)
+      (stays-now p (s .durable .marks) (after .marks) (rowsOf g done) (openOf h) (onlineOf s) all-committed-rows opened-open (r .lost .online-is) some here other)
+      (page-here g done (s .durable) (r .durable) p stamp (compactedPage s p) below stamp-most page-long ∙ page-written)
+      (page-there g done (s .durable) (r .durable) p stamp (compactedPage s p) below stamp-most page-long))
+    where
+      all : Bool
+      all = eqb (length (foldable s p)) (length (keep (onPage p) (onlineOf s)))
+
+  compact-right : Right g done h (compacted s p .lent)
+  unfolding compacted
+  compact-right =
+      settle (reads-compacted s p (r .whole) (ranged (sizeOf s) (pagesOf s) (framesOf s) (roomOf s) (spanOf s) (r .durable .range) .room-most) m) (r .past) compact-durable compact-lost
+
+-- compact keeps what is right
+pub keeps-compact : {g : Ground} {done : List (List ℕ)} {h : Past} {s : Lent} (p minDel maxAge : ℕ) → p < pagesOf s → due s p minDel maxAge ≡ true → Right g done h s → Right g done h (compacted s p .lent)
+keeps-compact {s = s} p minDel maxAge m d r = compact-right r p m (due-some s p minDel maxAge d)
