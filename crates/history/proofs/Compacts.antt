@@ -8,12 +8,11 @@ use lib.ListN.{length, getD, set, length-set}
 use lib.Seq.{getD-set-same, getD-set-other}
 use lib.Dec.{eqb, leb, ltb}
 use borrow.Author.Tests.{leb-true, le-leb, ltb-true, eqb-true, eqb-false}
-use Rattle.word.specs.Word.{num}
 use Rattle.record.specs.Rows.{keep, any}
 use Rattle.record.specs.Record.{numberOf, committed, applied, onPage, committedOn, smallest, greatest}
 use Rattle.apply.proofs.Laws.{length-applied}
 use Rattle.table.proofs.Laws.{keep-length}
-use Rattle.rules.specs.Lent.{Durable, Lent, sizeOf, pagesOf, framesOf, roomOf, spanOf, lastOf, stampAt, entryOf, entriesOf, orderOf, onlineOf, inFrame, frameOf, isDirty, cleanIn, pageIn}
+use Rattle.rules.specs.Lent.{Durable, Lent, sizeOf, pagesOf, framesOf, roomOf, spanOf, lastOf, entryOf, entriesOf, orderOf, onlineOf, inFrame, frameOf, isDirty, cleanIn, pageIn}
 use Rattle.rules.specs.Sound.{every, pairs}
 use Rattle.rules.specs.Steps.{freedOf, foldable, due, fromFrame, compactedPage, compactedEntry, compactedOrder, unfolded, compacted}
 use Rattle.onlinecheck.proofs.Rows.{and-both, every-imp}
@@ -28,10 +27,10 @@ use Rattle.readback.proofs.Pages.{page-length}
 use Rattle.readback.proofs.Seen.{livesOf}
 use Rattle.readback.proofs.Lost.{entry-whole, reads-compacted}
 use Rattle.history.specs.Past.{Past}
-use Rattle.history.proofs.Right.{Ground, PastRight, DurableRight, LostRight, Right, rowsOf, uncommitted, openOf, openRow, aboveStamp}
+use Rattle.history.proofs.Right.{Ground, DurableRight, LostRight, Right, rowsOf, uncommitted, openOf, openRow, aboveStamp}
 use Rattle.history.proofs.Settle.{settle}
 use Rattle.history.proofs.Soundly.{open-facts}
-use Rattle.history.proofs.Folding.{stays, stays-page, stays-none, all-committed, stays-other, stays-any, folded-most, above-now, fewer-above, stays-now, page-now}
+use Rattle.history.proofs.Folding.{Folds, stays, stays-page, stays-none, folds-all, stays-other, stays-any, folded-most, above-now, fewer-above, stays-now, page-now}
 use Rattle.history.proofs.Restamped.{restamped, stamp-here, stamp-other, page-here, page-there, restamped-right}
 
 module _ {g : Ground} {done opened : List (List ℕ)} {live : ℕ → Bool} {frames : ℕ} {marks stored pool order lives entries : List ℕ} {online : List (List ℕ)}
@@ -50,7 +49,7 @@ module _ {g : Ground} {done opened : List (List ℕ)} {live : ℕ → Bool} {fra
   frame-folded : whole ≡ true → inFrame entry ≡ true → pageIn (g .size) (frameOf entry) pool ≡ applied (keep (committedOn p) online) (pageIn (g .size) p stored)
   frame-folded w f =
       l .frame p k f
-      ∙ ap (λ (rs : List (List ℕ)). applied rs (pageIn (g .size) p stored)) (sym (all-committed p online (eqb-true (length (keep (committedOn p) online)) (length (keep (onPage p) online)) w)))
+      ∙ ap (λ (rs : List (List ℕ)). applied rs (pageIn (g .size) p stored)) (sym (folds-all p online (eqb-true (length (keep (committedOn p) online)) (length (keep (onPage p) online)) w)))
 
   -- so what is written is that page, whether from the frame or not
   pub folded-written : cond (whole && inFrame entry) (pageIn (g .size) (frameOf entry) pool) (applied (keep (committedOn p) online) (pageIn (g .size) p stored)) ≡ applied (keep (committedOn p) online) (pageIn (g .size) p stored)
@@ -151,8 +150,8 @@ module _ {g : Ground} {done : List (List ℕ)} {h : Past} {s : Lent} (r : Right 
   below = omega (arith, r .durable .pages)
 
   -- the committed updates
-  all-committed-rows : every committed (rowsOf g done) ≡ true
-  all-committed-rows = numberedFrom-committed (g .base + 1) (r .past .done-wide)
+  all-committed : every committed (rowsOf g done) ≡ true
+  all-committed = numberedFrom-committed (g .base + 1) (r .past .done-wide)
 
   numbers-fit : g .base + 1 + length done ≤ 4294967296
   numbers-fit = omega (arith, r .durable .last, r .durable .bound)
@@ -166,15 +165,18 @@ module _ {g : Ground} {done : List (List ℕ)} {h : Past} {s : Lent} (r : Right 
       (λ x e. le-leb (numberOf x) (lastOf s) (omega (arith, r .durable .last, ltb-true (numberOf x) (g .base + 1 + length done) (and-both (leb (g .base + 1) (numberOf x)) (ltb (numberOf x) (g .base + 1 + length done)) e .1))))
       (rowsOf g done) (numberedFrom-from (g .base + 1) (r .past .done-wide) numbers-fit)
 
-  opened-open : every uncommitted (openOf h) ≡ true
-  opened-open = every-imp (openRow g (h .live)) uncommitted (λ x e. ap not (open-facts g (h .live) x e .owned)) (openOf h) (r .past .open-rows)
+  none-committed : every uncommitted (openOf h) ≡ true
+  none-committed = every-imp (openRow g (h .live)) uncommitted (λ x e. ap not (open-facts g (h .live) x e .owned)) (openOf h) (r .past .open-rows)
 
   -- the new stamp, and the page as it is written
   abbrev stamp : ℕ
   stamp = greatest 0 (foldable s p)
 
   stamp-most : stamp ≤ lastOf s
-  stamp-most = folded-most p (aboveStamp (s .durable .marks)) (rowsOf g done) (openOf h) (onlineOf s) all-committed-rows opened-open (r .lost .online-is) (lastOf s) rows-most
+  stamp-most = folded-most p (aboveStamp (s .durable .marks)) (rowsOf g done) (openOf h) (onlineOf s) all-committed none-committed (r .lost .online-is) (lastOf s) rows-most
+
+  abbrev all : Bool
+  all = eqb (length (foldable s p)) (length (keep (onPage p) (onlineOf s)))
 
   abbrev was : List ℕ
   was = pageIn (g .size) p (s .durable .stored)
@@ -185,33 +187,35 @@ module _ {g : Ground} {done : List (List ℕ)} {h : Past} {s : Lent} (r : Right 
       ap (λ (n : ℕ). cond (all && inFrame (entryOf s p)) (pageIn n (frameOf (entryOf s p)) (s .lost .pool)) (applied (foldable s p) (pageIn n p (s .durable .stored)))) (r .durable .size)
       ∙ ap (λ (e : ℕ). cond (all && inFrame e) (pageIn (g .size) (frameOf e) (s .lost .pool)) (applied (foldable s p) was)) (entry-whole s p (r .whole) m)
       ∙ folded-written (r .lost) p below
-    where
-      all : Bool
-      all = eqb (length (foldable s p)) (length (keep (onPage p) (onlineOf s)))
 
   page-long : length (compactedPage s p) ≡ g .size
   page-long = ap (λ (x : List ℕ). length x) page-written ∙ length-applied (foldable s p) was ∙ page-length (g .size) (g .pages) (s .durable .stored) (r .durable .stored) p below
 
-  -- the durable part that it leaves
+  -- the durable part that compact leaves
   abbrev after : Durable
-  after = restamped g done (s .durable) (r .durable) p stamp (compactedPage s p) below stamp-most page-long
+  after = restamped (s .durable) p stamp (compactedPage s p)
 
-  here : num 4 (after .marks) (stampAt p) ≡ stamp
-  here = stamp-here g done (s .durable) (r .durable) p stamp (compactedPage s p) below stamp-most page-long
-
-  other : (q : ℕ) → (q ≡ p → ⊥) → num 4 (after .marks) (stampAt q) ≡ num 4 (s .durable .marks) (stampAt q)
-  other = stamp-other g done (s .durable) (r .durable) p stamp (compactedPage s p) below stamp-most page-long
+  folds : Folds p (s .durable .marks) (after .marks) (rowsOf g done) (openOf h) (onlineOf s)
+  folds =
+      record {
+        all-committed = all-committed;
+        none-committed = none-committed;
+        online-is = r .lost .online-is;
+        some = some;
+        here = stamp-here (r .durable) p stamp (compactedPage s p) below stamp-most page-long;
+        other = stamp-other (r .durable) p stamp (compactedPage s p) below stamp-most page-long;
+      }
 
   compact-durable : DurableRight g done after
   compact-durable =
-      restamped-right g done (s .durable) (r .durable) p stamp (compactedPage s p) below stamp-most page-long
-      (fewer-above p (s .durable .marks) (after .marks) (rowsOf g done) (openOf h) (onlineOf s) all-committed-rows opened-open (r .lost .online-is) some here other)
-      (let e = above-now p (s .durable .marks) (after .marks) (rowsOf g done) (openOf h) (onlineOf s) all-committed-rows opened-open (r .lost .online-is) some here other in
-       rw e (keep-length (λ (x : List ℕ). not (onPage p x)) (keep (aboveStamp (s .durable .marks)) (rowsOf g done))))
+      restamped-right (r .durable) p stamp (compactedPage s p) below stamp-most page-long
+      (fewer-above folds)
+      (rw (above-now folds) (keep-length (λ (x : List ℕ). not (onPage p x)) (keep (aboveStamp (s .durable .marks)) (rowsOf g done))))
       (page-written
       ∙ ap (λ (x : List ℕ). applied (foldable s p) x) (r .durable .page p below)
-      ∙ page-now p (s .durable .marks) (after .marks) (rowsOf g done) (openOf h) (onlineOf s) all-committed-rows opened-open (r .lost .online-is) some here other rows-rising (pageIn (g .size) p (g .start)))
+      ∙ page-now folds rows-rising (pageIn (g .size) p (g .start)))
 
+  -- and the lost part
   compact-lost : LostRight g done (openOf h) (h .live) (framesOf s) (after .marks) (after .stored) (s .lost .pool) (compactedOrder s p) (livesOf s) (set (entriesOf s) p (compactedEntry s p)) (unfolded s p)
   unfolding compactedOrder compactedEntry fromFrame
   compact-lost =
@@ -219,12 +223,9 @@ module _ {g : Ground} {done : List (List ℕ)} {h : Past} {s : Lent} (r : Right 
       (λ (e : ℕ). LostRight g done (openOf h) (h .live) (framesOf s) (after .marks) (after .stored) (s .lost .pool) (cond (all && inFrame e) (orderOf s) (freedOf e (orderOf s))) (livesOf s) (set (entriesOf s) p (cond (all && inFrame e) (cleanIn (frameOf e)) (cond all 0 1))) (unfolded s p))
       (sym (entry-whole s p (r .whole) m))
       (folded-lost (r .lost) p below (after .marks) (after .stored)
-      (stays-now p (s .durable .marks) (after .marks) (rowsOf g done) (openOf h) (onlineOf s) all-committed-rows opened-open (r .lost .online-is) some here other)
-      (page-here g done (s .durable) (r .durable) p stamp (compactedPage s p) below stamp-most page-long ∙ page-written)
-      (page-there g done (s .durable) (r .durable) p stamp (compactedPage s p) below stamp-most page-long))
-    where
-      all : Bool
-      all = eqb (length (foldable s p)) (length (keep (onPage p) (onlineOf s)))
+      (stays-now folds)
+      (page-here (r .durable) p stamp (compactedPage s p) below stamp-most page-long ∙ page-written)
+      (page-there (r .durable) p stamp (compactedPage s p) below stamp-most page-long))
 
   compact-right : Right g done h (compacted s p .lent)
   unfolding compacted

@@ -11,24 +11,23 @@ use borrow.Author.Tests.{leb-true, ltb-true, ltb-false, le-ltb, eqb-true, eqb-fa
 use Rattle.word.specs.Word.{num}
 use Rattle.record.specs.Rows.{keep, consIf, any}
 use Rattle.record.specs.Record.{pageOf, numberOf, committed, applied, onPage, committedOn, gone, greatest}
-use Rattle.table.proofs.Laws.{keep-length}
 use Rattle.rules.specs.Lent.{stampAt}
 use Rattle.rules.specs.Sound.{every, pairs}
 use Rattle.onlinecheck.proofs.Rows.{and-both, every-imp}
 use Rattle.redo.proofs.Order.{≈-picked}
-use Rattle.redo.proofs.Loose.{_≅_, then, ≅-equal, ≅-keep, ≅-free, ≅-every, ≅-length}
+use Rattle.redo.proofs.Loose.{_≅_, then, ≅-equal, ≅-keep, ≅-free, ≅-every}
 use Rattle.redo.proofs.View.{keep-append}
 use Rattle.redo.proofs.Views.{rising, keep-keep, keep-same, keep-same-where, keep-both, keep-all, keep-none, stored-then-online}
 use Rattle.redo.proofs.Reader.{every-keep as every-kept-where}
 use Rattle.readback.proofs.Extremes.{numberAtMost, greatest-all, greatest-most}
-use Rattle.history.proofs.Tested.{or-of, or-right, every-keep, keep-behind}
+use Rattle.history.proofs.Tested.{every-keep}
 use Rattle.history.proofs.Right.{uncommitted, aboveStamp}
 
 -- a page's committed records are gone, the others stay
 abbrev pub stays : ℕ → List ℕ → Bool
 stays p r = not (gone false 0 p r)
 
--- what those that pass one test pass, said of all
+-- what all those pass that pass another test, said of every row
 every-where : (a c : List ℕ → Bool) (l : List (List ℕ)) → every c (keep a l) ≡ true → every (λ (r : List ℕ). not (a r) || c r) l ≡ true
 unfolding every keep
 every-where a c [] h = refl
@@ -41,7 +40,7 @@ every-where a c (r ∷ l) h = pick (a r) h (every-where a c l)
     pick true k f = let s = and-both (c r) (every c (keep a l)) k in rw (s .0, f (s .1))
     pick false k f = f k
 
--- where there is a row, what two numbers are on both sides of it
+-- where there is a row, numbered above a and at most b, a is at most b
 some-between : (a b : ℕ) (l : List (List ℕ)) → 1 ≤ length l → every (λ (r : List ℕ). ltb a (numberOf r)) l ≡ true → every (λ (r : List ℕ). leb (numberOf r) b) l ≡ true → a ≤ b
 unfolding every
 some-between a b [] n h k = absurd (omega arith)
@@ -49,7 +48,7 @@ some-between a b (r ∷ l) n h k =
     omega (arith, ltb-true a (numberOf r) (and-both (ltb a (numberOf r)) (every (λ (x : List ℕ). ltb a (numberOf x)) l) h .0), leb-true (numberOf r) b (and-both (leb (numberOf r) b) (every (λ (x : List ℕ). leb (numberOf x) b) l) k .0))
 
 -- one passes, or none is kept
-pub any-kept : (b : List ℕ → Bool) (l : List (List ℕ)) → any b l ≡ not (eqb (length (keep b l)) 0)
+any-kept : (b : List ℕ → Bool) (l : List (List ℕ)) → any b l ≡ not (eqb (length (keep b l)) 0)
 unfolding any keep
 any-kept b [] = refl
 any-kept b (r ∷ l) = pick (b r) (any-kept b l)
@@ -89,10 +88,10 @@ pub stays-none : (p : ℕ) (l : List (List ℕ)) → length (keep (committedOn p
 stays-none p l h = nothing (keep (onPage p) (keep (stays p) l)) (omega (arith, stays-count p l))
 
 -- and the page's records are its committed ones
-pub all-committed : (p : ℕ) (l : List (List ℕ)) → length (keep (committedOn p) l) ≡ length (keep (onPage p) l) → keep (committedOn p) l ≡ keep (onPage p) l
+pub folds-all : (p : ℕ) (l : List (List ℕ)) → length (keep (committedOn p) l) ≡ length (keep (onPage p) l) → keep (committedOn p) l ≡ keep (onPage p) l
 unfolding keep
-all-committed p [] h = refl
-all-committed p (r ∷ l) h = pick (onPage p r) (committed r) h (all-committed p l)
+folds-all p [] h = refl
+folds-all p (r ∷ l) h = pick (onPage p r) (committed r) h (folds-all p l)
   where
     pick : (s t : Bool) → length (consIf (s && t) r (keep (committedOn p) l)) ≡ length (consIf s r (keep (onPage p) l))
         → (length (keep (committedOn p) l) ≡ length (keep (onPage p) l) → keep (committedOn p) l ≡ keep (onPage p) l)
@@ -131,17 +130,17 @@ module _ (p : ℕ) (above : List ℕ → Bool) (rows opened online : List (List 
       ∙ keep-same-where committed (committedOn p) (onPage p) (λ r e. ap (λ (t : Bool). onPage p r && t) e ∙ and-true (onPage p r)) (keep above rows) kept-committed
 
   -- what is folded is the page's committed updates above its stamp
-  pub folded-are : keep (committedOn p) online ≅ keep (onPage p) (keep above rows)
+  folded-are : keep (committedOn p) online ≅ keep (onPage p) (keep above rows)
   folded-are = then (≅-keep (committedOn p) is) (≅-equal committed-part)
 
   -- and the page sees no difference
-  pub folded-page : (g : List ℕ) → applied (keep (committedOn p) online) g ≡ applied (keep (onPage p) (keep above rows)) g
+  folded-page : (g : List ℕ) → applied (keep (committedOn p) online) g ≡ applied (keep (onPage p) (keep above rows)) g
   folded-page g =
       ≈-picked p (committedOn p) (λ r e. eqb-true (pageOf r) p (and-both (onPage p r) (committed r) e .0)) (≅-free is) g
       ∙ ap (λ (k : List (List ℕ)). applied k g) committed-part
 
   -- what stays is the committed updates of the other pages above their stamps, then what is not committed
-  pub stays-are : keep (stays p) online ≅ keep (λ (r : List ℕ). not (onPage p r)) (keep above rows) ++ opened
+  stays-are : keep (stays p) online ≅ keep (λ (r : List ℕ). not (onPage p r)) (keep above rows) ++ opened
   stays-are =
       then (≅-keep (stays p) is)
       (≅-equal
@@ -155,14 +154,21 @@ module _ (p : ℕ) (above : List ℕ → Bool) (rows opened online : List (List 
       greatest-most last (keep (committedOn p) online)
       (≅-every (numberAtMost last) folded-are ∙ every-keep (onPage p) (numberAtMost last) (keep above rows) (every-keep above (numberAtMost last) rows h))
 
--- the marks with the page's new stamp, where there is something to fold
-module _ (p : ℕ) (marks ms : List ℕ) (rows opened online : List (List ℕ)) (hc : every committed rows ≡ true) (ho : every uncommitted opened ≡ true) (is : online ≅ keep (aboveStamp marks) rows ++ opened)
-    (some : 1 ≤ length (keep (committedOn p) online)) (here : num 4 ms (stampAt p) ≡ greatest 0 (keep (committedOn p) online)) (other : (q : ℕ) → (q ≡ p → ⊥) → num 4 ms (stampAt q) ≡ num 4 marks (stampAt q)) where
+-- a page's new stamp, where there is something to fold: the marks and rows before, and the marks with it
+pub record Folds (p : ℕ) (marks ms : List ℕ) (rows opened online : List (List ℕ)) : Type 0 where
+  pub all-committed : every committed rows ≡ true
+  pub none-committed : every uncommitted opened ≡ true
+  pub online-is : online ≅ keep (aboveStamp marks) rows ++ opened
+  pub some : 1 ≤ length (keep (committedOn p) online)
+  pub here : num 4 ms (stampAt p) ≡ greatest 0 (keep (committedOn p) online)
+  pub other : (q : ℕ) → (q ≡ p → ⊥) → num 4 ms (stampAt q) ≡ num 4 marks (stampAt q)
+
+module _ {p : ℕ} {marks ms : List ℕ} {rows opened online : List (List ℕ)} (f : Folds p marks ms rows opened online) where
   abbrev stamp : ℕ
   stamp = greatest 0 (keep (committedOn p) online)
 
   folded : keep (committedOn p) online ≅ keep (onPage p) (keep (aboveStamp marks) rows)
-  folded = folded-are p (aboveStamp marks) rows opened online hc ho is
+  folded = folded-are p (aboveStamp marks) rows opened online (f .all-committed) (f .none-committed) (f .online-is)
 
   -- a row's number is at most the new stamp if it was above the old
   abbrev within : List ℕ → Bool
@@ -176,9 +182,9 @@ module _ (p : ℕ) (marks ms : List ℕ) (rows opened online : List (List ℕ)) 
   -- the new stamp is not below the old
   raised : num 4 marks (stampAt p) ≤ stamp
   raised =
-      some-between (num 4 marks (stampAt p)) stamp (keep (committedOn p) online) some
+      some-between (num 4 marks (stampAt p)) stamp (keep (committedOn p) online) (f .some)
       (≅-every later folded ∙ ap (λ (k : List (List ℕ)). every later k) (keep-both (onPage p) (aboveStamp marks) rows)
-      ∙ every-kept-where (λ (r : List ℕ). onPage p r && aboveStamp marks r) committed later (λ r e k. at r (and-both (onPage p r) (aboveStamp marks r) e)) rows hc)
+      ∙ every-kept-where (λ (r : List ℕ). onPage p r && aboveStamp marks r) committed later (λ r e k. at r (and-both (onPage p r) (aboveStamp marks r) e)) rows (f .all-committed))
       (greatest-all (keep (committedOn p) online))
     where
       later : List ℕ → Bool
@@ -192,15 +198,15 @@ module _ (p : ℕ) (marks ms : List ℕ) (rows opened online : List (List ℕ)) 
   now-above r h = go (onPage p r) refl h
     where
       low : pageOf r ≡ p → (t : Bool) → aboveStamp marks r ≡ t → (not t || numberAtMost stamp r) ≡ true → numberOf r ≤ stamp
-      low e true f k = leb-true (numberOf r) stamp k
-      low e false f k = omega (arith, ltb-false (num 4 marks (stampAt p)) (numberOf r) (ap (λ (q : ℕ). ltb (num 4 marks (stampAt q)) (numberOf r)) (sym e) ∙ f), raised)
+      low e true z k = leb-true (numberOf r) stamp k
+      low e false z k = omega (arith, ltb-false (num 4 marks (stampAt p)) (numberOf r) (ap (λ (q : ℕ). ltb (num 4 marks (stampAt q)) (numberOf r)) (sym e) ∙ z), raised)
 
       go : (t : Bool) → onPage p r ≡ t → (not (t && aboveStamp marks r) || numberAtMost stamp r) ≡ true → aboveStamp ms r ≡ (aboveStamp marks r && not t)
       go true e k =
-          let f : pageOf r ≡ p = eqb-true (pageOf r) p e in
-          ap (λ (q : ℕ). ltb (num 4 ms (stampAt q)) (numberOf r)) f ∙ ap (λ (n : ℕ). ltb n (numberOf r)) here
-          ∙ le-ltb stamp (numberOf r) (low f (aboveStamp marks r) refl k) ∙ sym (and-false (aboveStamp marks r))
-      go false e k = ap (λ (n : ℕ). ltb n (numberOf r)) (other (pageOf r) (eqb-false (pageOf r) p e)) ∙ sym (and-true (aboveStamp marks r))
+          let z : pageOf r ≡ p = eqb-true (pageOf r) p e in
+          ap (λ (q : ℕ). ltb (num 4 ms (stampAt q)) (numberOf r)) z ∙ ap (λ (n : ℕ). ltb n (numberOf r)) (f .here)
+          ∙ le-ltb stamp (numberOf r) (low z (aboveStamp marks r) refl k) ∙ sym (and-false (aboveStamp marks r))
+      go false e k = ap (λ (n : ℕ). ltb n (numberOf r)) (f .other (pageOf r) (eqb-false (pageOf r) p e)) ∙ sym (and-true (aboveStamp marks r))
 
   pub above-now : keep (aboveStamp ms) rows ≡ keep (λ (r : List ℕ). not (onPage p r)) (keep (aboveStamp marks) rows)
   above-now =
@@ -217,13 +223,13 @@ module _ (p : ℕ) (marks ms : List ℕ) (rows opened online : List (List ℕ)) 
 
   -- so what stays online is again what no stored page holds, then what is not committed
   pub stays-now : keep (stays p) online ≅ keep (aboveStamp ms) rows ++ opened
-  stays-now = then (stays-are p (aboveStamp marks) rows opened online hc ho is) (≅-equal (ap (λ (k : List (List ℕ)). k ++ opened) (sym above-now)))
+  stays-now = then (stays-are p (aboveStamp marks) rows opened online (f .all-committed) (f .none-committed) (f .online-is)) (≅-equal (ap (λ (k : List (List ℕ)). k ++ opened) (sym above-now)))
 
   -- and the page with what is folded has the committed updates up to its new stamp
   pub page-now : pairs rising rows ≡ true → (g : List ℕ)
       → applied (keep (committedOn p) online) (applied (keep (λ (r : List ℕ). onPage p r && not (aboveStamp marks r)) rows) g) ≡ applied (keep (λ (r : List ℕ). onPage p r && not (aboveStamp ms r)) rows) g
   page-now u g =
-      folded-page p (aboveStamp marks) rows opened online hc ho is (applied (keep (λ (r : List ℕ). onPage p r && not (aboveStamp marks r)) rows) g)
+      folded-page p (aboveStamp marks) rows opened online (f .all-committed) (f .none-committed) (f .online-is) (applied (keep (λ (r : List ℕ). onPage p r && not (aboveStamp marks r)) rows) g)
       ∙ stored-then-online marks p rows g u
       ∙ ap (λ (k : List (List ℕ)). applied k g) (keep-same-where within (onPage p) (λ (r : List ℕ). onPage p r && not (aboveStamp ms r)) (λ r h. all (onPage p r) (aboveStamp marks r) ∙ ap (λ (t : Bool). onPage p r && not t) (sym (now-above r h))) rows all-within)
     where

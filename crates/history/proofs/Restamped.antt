@@ -24,15 +24,19 @@ through true true c h k = k
 through true false c h k = let z : _≡_ {A = ℕ} 0 1 = cc in absurd (omega arith)
 through false b c h k = refl
 
-module _ (g : Ground) (done : List (List ℕ)) (d : Durable) (r : DurableRight g done d) (p n : ℕ) (page : List ℕ) (k : p < g .pages) (most : n ≤ lastOf (only d)) (long : length page ≡ g .size) where
+-- page p is written, and its stamp is n
+abbrev pub restamped : Durable → ℕ → ℕ → List ℕ → Durable
+restamped d p n page = record { fixed = d .fixed; marks = put 4 (d .marks) (stampAt p) n; log = d .log; stored = withPage (sizeOf (only d)) p (d .stored) page }
+
+module _ {g : Ground} {done : List (List ℕ)} {d : Durable} (r : DurableRight g done d) (p n : ℕ) (page : List ℕ) (k : p < g .pages) (most : n ≤ lastOf (only d)) (long : length page ≡ g .size) where
+  abbrev now : Durable
+  now = restamped d p n page
+
   abbrev marks : List ℕ
-  marks = put 4 (d .marks) (stampAt p) n
+  marks = now .marks
 
   abbrev stored : List ℕ
-  stored = withPage (sizeOf (only d)) p (d .stored) page
-
-  abbrev pub restamped : Durable
-  restamped = record { fixed = d .fixed; marks = marks; log = d .log; stored = stored }
+  stored = now .stored
 
   k′ : p < pagesOf (only d)
   k′ = omega (arith, r .pages)
@@ -47,26 +51,26 @@ module _ (g : Ground) (done : List (List ℕ)) (d : Durable) (r : DurableRight g
   front = restamped-front (pagesOf (only d)) (d .marks) marks-long p n k′ small
 
   -- the page's stamp, and the others
-  pub stamp-here : num 4 marks (stampAt p) ≡ n
+  pub stamp-here : num 4 (restamped d p n page .marks) (stampAt p) ≡ n
   stamp-here = restamped-same (pagesOf (only d)) (d .marks) marks-long p n k′ small
 
-  pub stamp-other : (q : ℕ) → (q ≡ p → ⊥) → num 4 marks (stampAt q) ≡ num 4 (d .marks) (stampAt q)
+  pub stamp-other : (q : ℕ) → (q ≡ p → ⊥) → num 4 (restamped d p n page .marks) (stampAt q) ≡ num 4 (d .marks) (stampAt q)
   stamp-other = restamped-other (pagesOf (only d)) (d .marks) marks-long p n k′ small
 
-  dirty-now : (q : ℕ) → dirtyOf (only restamped) q ≡ dirtyOf (only d) q
+  dirty-now : (q : ℕ) → dirtyOf (only now) q ≡ dirtyOf (only d) q
   dirty-now = restamped-dirty (pagesOf (only d)) (d .marks) marks-long p n k′ small
 
-  last-now : lastOf (only restamped) ≡ lastOf (only d)
+  last-now : lastOf (only now) ≡ lastOf (only d)
   last-now = front 0 (omega arith)
 
-  closed-now : closedOf (only restamped) ≡ closedOf (only d)
+  closed-now : closedOf (only now) ≡ closedOf (only d)
   closed-now = front 4 (omega arith)
 
-  logged-now : loggedOf (only restamped) ≡ loggedOf (only d)
+  logged-now : loggedOf (only now) ≡ loggedOf (only d)
   logged-now = front 8 (omega arith)
 
-  first-now : firstOf (only restamped) ≡ firstOf (only d)
-  first-now = ap (λ (m : ℕ). m - loggedOf (only restamped) + 1) last-now ∙ ap (λ (m : ℕ). lastOf (only d) - m + 1) logged-now
+  first-now : firstOf (only now) ≡ firstOf (only d)
+  first-now = ap (λ (m : ℕ). m - loggedOf (only now) + 1) last-now ∙ ap (λ (m : ℕ). lastOf (only d) - m + 1) logged-now
 
   -- the page as it is stored, and the others
   area : length (d .stored) ≡ sizeOf (only d) * g .pages
@@ -75,10 +79,10 @@ module _ (g : Ground) (done : List (List ℕ)) (d : Durable) (r : DurableRight g
   full : length page ≡ sizeOf (only d)
   full = long ∙ sym (r .size)
 
-  pub page-here : pageIn (g .size) p stored ≡ page
+  pub page-here : pageIn (g .size) p (restamped d p n page .stored) ≡ page
   page-here = ap (λ (m : ℕ). pageIn m p stored) (sym (r .size)) ∙ page-same (sizeOf (only d)) (g .pages) (d .stored) area p k page full
 
-  pub page-there : (q : ℕ) → q < g .pages → (q ≡ p → ⊥) → pageIn (g .size) q stored ≡ pageIn (g .size) q (d .stored)
+  pub page-there : (q : ℕ) → q < g .pages → (q ≡ p → ⊥) → pageIn (g .size) q (restamped d p n page .stored) ≡ pageIn (g .size) q (d .stored)
   page-there q h e =
       ap (λ (m : ℕ). pageIn m q stored) (sym (r .size))
       ∙ page-other (sizeOf (only d)) (g .pages) (d .stored) area p k page full q h e
@@ -87,19 +91,19 @@ module _ (g : Ground) (done : List (List ℕ)) (d : Durable) (r : DurableRight g
   -- fewer updates are above their stamps, and the page has those up to its own
   module _ (fewer : every (λ (x : List ℕ). not (aboveStamp marks x) || aboveStamp (d .marks) x) (rowsOf g done) ≡ true) (less : length (keep (aboveStamp marks) (rowsOf g done)) ≤ length (keep (aboveStamp (d .marks)) (rowsOf g done)))
       (is : page ≡ applied (keep (λ (x : List ℕ). onPage p x && not (aboveStamp marks x)) (rowsOf g done)) (pageIn (g .size) p (g .start))) where
-    stamps-now : (q : ℕ) → q < g .pages → stampOf (only restamped) q ≤ lastOf (only restamped)
+    stamps-now : (q : ℕ) → q < g .pages → stampOf (only now) q ≤ lastOf (only now)
     stamps-now q h = go (eqb q p) refl
       where
-        go : (t : Bool) → eqb q p ≡ t → stampOf (only restamped) q ≤ lastOf (only restamped)
-        go true e = let f : stampOf (only restamped) q ≡ n = ap (λ (i : ℕ). num 4 marks (stampAt i)) (eqb-true q p e) ∙ stamp-here in omega (arith, last-now)
+        go : (t : Bool) → eqb q p ≡ t → stampOf (only now) q ≤ lastOf (only now)
+        go true e = let f : stampOf (only now) q ≡ n = ap (λ (i : ℕ). num 4 marks (stampAt i)) (eqb-true q p e) ∙ stamp-here in omega (arith, last-now)
         go false e = omega (arith, stamp-other q (eqb-false q p e), last-now, r .stamps q h)
 
     dirts-now : (q : ℕ) → (dirtyOf (only d) q ≡ 0) ⊎ ((firstOf (only d) ≤ dirtyOf (only d) q) × (dirtyOf (only d) q ≤ closedOf (only d)))
-        → (dirtyOf (only restamped) q ≡ 0) ⊎ ((firstOf (only restamped) ≤ dirtyOf (only restamped) q) × (dirtyOf (only restamped) q ≤ closedOf (only restamped)))
+        → (dirtyOf (only now) q ≡ 0) ⊎ ((firstOf (only now) ≤ dirtyOf (only now) q) × (dirtyOf (only now) q ≤ closedOf (only now)))
     dirts-now q (inl e) = inl (dirty-now q ∙ e)
     dirts-now q (inr e) = inr (omega (arith, first-now, dirty-now q, e .0), omega (arith, closed-now, dirty-now q, e .1))
 
-    needed-now : every (λ (x : List ℕ). not (aboveStamp marks x) || leb (firstOf (only restamped)) (numberOf x)) (rowsOf g done) ≡ true
+    needed-now : every (λ (x : List ℕ). not (aboveStamp marks x) || leb (firstOf (only now)) (numberOf x)) (rowsOf g done) ≡ true
     needed-now =
         ap (λ (m : ℕ). every (λ (x : List ℕ). not (aboveStamp marks x) || leb m (numberOf x)) (rowsOf g done)) first-now
         ∙ every-two (λ (x : List ℕ). not (aboveStamp marks x) || aboveStamp (d .marks) x) (λ (x : List ℕ). not (aboveStamp (d .marks) x) || leb (firstOf (only d)) (numberOf x)) (λ (x : List ℕ). not (aboveStamp marks x) || leb (firstOf (only d)) (numberOf x))
@@ -108,14 +112,14 @@ module _ (g : Ground) (done : List (List ℕ)) (d : Durable) (r : DurableRight g
     abbrev enters : Durable → List ℕ → Bool
     enters e x = not (leb (numberOf x) (closedOf (only e)) && eqb (dirtyOf (only e) (pageOf x)) 0)
 
-    enters-now : (x : List ℕ) → enters d x ≡ enters restamped x
+    enters-now : (x : List ℕ) → enters d x ≡ enters now x
     enters-now x =
         ap (λ (m : ℕ). not (leb (numberOf x) m && eqb (dirtyOf (only d) (pageOf x)) 0)) (sym closed-now)
-        ∙ ap (λ (m : ℕ). not (leb (numberOf x) (closedOf (only restamped)) && eqb m 0)) (sym (dirty-now (pageOf x)))
+        ∙ ap (λ (m : ℕ). not (leb (numberOf x) (closedOf (only now)) && eqb m 0)) (sym (dirty-now (pageOf x)))
 
-    entered-now : every (λ (x : List ℕ). not (aboveStamp marks x) || enters restamped x) (rowsOf g done) ≡ true
+    entered-now : every (λ (x : List ℕ). not (aboveStamp marks x) || enters now x) (rowsOf g done) ≡ true
     entered-now =
-        every-two (λ (x : List ℕ). not (aboveStamp marks x) || aboveStamp (d .marks) x) (λ (x : List ℕ). not (aboveStamp (d .marks) x) || enters d x) (λ (x : List ℕ). not (aboveStamp marks x) || enters restamped x)
+        every-two (λ (x : List ℕ). not (aboveStamp marks x) || aboveStamp (d .marks) x) (λ (x : List ℕ). not (aboveStamp (d .marks) x) || enters d x) (λ (x : List ℕ). not (aboveStamp marks x) || enters now x)
         (λ x a b. ap (λ (t : Bool). not (aboveStamp marks x) || t) (sym (enters-now x)) ∙ through (aboveStamp marks x) (aboveStamp (d .marks) x) (enters d x) a b) (rowsOf g done) fewer (r .entered)
 
     -- the stamps of rows of another page
@@ -135,7 +139,7 @@ module _ (g : Ground) (done : List (List ℕ)) (d : Durable) (r : DurableRight g
             page-there q h (eqb-false q p e) ∙ r .page q h
             ∙ ap (λ (l : List (List ℕ)). applied l (pageIn (g .size) q (g .start))) (keep-same (λ (x : List ℕ). onPage q x && not (aboveStamp (d .marks) x)) (λ (x : List ℕ). onPage q x && not (aboveStamp marks x)) (there-now q (eqb-false q p e)) (rowsOf g done))
 
-    pub restamped-right : DurableRight g done restamped
+    pub restamped-right : DurableRight g done (restamped d p n page)
     restamped-right =
         record {
           fixed = r .fixed;
