@@ -15,3 +15,6 @@ pub mod Begins
 pub mod Fetches
 pub mod Formats
 pub mod Twins
+pub mod Folding
+pub mod Restamped
+pub mod Compacts
