@@ -5,4 +5,5 @@ pub mod Restarts
 pub mod Tested
 pub mod Soundly
 pub mod Known
+pub mod Least
 pub mod Saying
