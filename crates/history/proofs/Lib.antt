@@ -6,4 +6,5 @@ pub mod Tested
 pub mod Soundly
 pub mod Known
 pub mod Least
+pub mod Closes
 pub mod Saying
