@@ -1,42 +1,34 @@
 -- Restart reads the log alone, and what enters is just what no stored page holds: the committed updates numbered above their page's stamp.
-use Prim.Native.Nat.{ℕ, zero, suc, _+_, _-_, _≤_, _<_}
+-- So restart makes right what a power loss left, and a loss at any time leaves enough for it.
+use Prim.Native.Nat.{ℕ, zero, suc, _+_, _-_, _≤_}
 use native.Mathlib.Omega.{arith}
-use mathlib.Core.Path.{_≡_, refl, sym, ap, _∙_}
-use mathlib.Core.Logic.{inl}
+use mathlib.Core.Path.{_≡_, refl, sym, ap, _∙_, subst}
 use mathlib.Core.Bool.{Bool, true, false, not, _&&_, _||_, false≢true}
-use mathlib.Core.List.{List, [], _∷_, _++_}
-use lib.ListN.{length, drop, replicate, length-append, length-drop, List·getD-append}
+use mathlib.Core.List.{List, [], append-nil}
+use lib.ListN.{length, drop, replicate, length-drop, length-replicate, getD-replicate}
 use lib.Dec.{eqb, leb, ltb}
 use borrow.Author.Tests.{leb-false, ltb-true, ltb-false, lt-ltb, le-leb, lt-leb, not-true}
 use Rattle.record.specs.Rows.{consIf, keep}
-use Rattle.record.specs.Record.{pageOf, numberOf, entered}
-use Rattle.table.proofs.Laws.{Wide, none, one, wide-drop}
-use Rattle.rules.specs.Lent.{Lent, lastOf, closedOf, loggedOf, stampOf, dirtyOf, firstOf}
-use Rattle.rules.specs.Steps.{enters, entering, enteringAll}
+use Rattle.record.specs.Record.{pageOf, numberOf, entered, committed, wellFormed}
+use Rattle.table.proofs.Laws.{Wide, none, one, wide-drop, wide-keep}
+use Rattle.rules.specs.Lent.{Lent, Lost, sizeOf, pagesOf, framesOf, roomOf, spanOf, lastOf, closedOf, loggedOf, stampOf, dirtyOf, firstOf}
+use Rattle.rules.specs.Steps.{enters, entering, enteringAll, restarted}
 use Rattle.rules.specs.Sound.{every}
 use Rattle.onlinecheck.proofs.Rows.{and-both, every-imp}
-use Rattle.compact.proofs.Kept.{num-put}
-use Rattle.redo.proofs.Bytes.{put-outside}
-use Rattle.redo.proofs.View.{SameBody, body-page}
-use Rattle.redo.proofs.Loose.{numberedFrom}
-use Rattle.history.proofs.Right.{Ground, DurableRight, rowsOf, aboveStamp}
-
--- a row that is entered from the log: its page is its record's, its number the one given
-module _ (b : List ℕ) (k : ℕ) (h : length b ≡ 14) where
-  entered-same : SameBody (entered b k) b
-  unfolding entered
-  entered-same i p q =
-      let m : i < length b = omega arith in
-      put-outside 4 (b ++ replicate 5 0) 15 k i (inl (omega arith)) ∙ List·getD-append b (replicate 5 0) 0 i m
-
-  entered-page : pageOf (entered b k) ≡ pageOf b
-  entered-page = body-page (entered b k) b entered-same
-
-  entered-number : k ≤ 4294967295 → numberOf (entered b k) ≡ k
-  unfolding entered
-  entered-number p =
-      let m : 15 + 4 ≤ length (b ++ replicate 5 0) = omega (arith, length-append b (replicate 5 0), h) in
-      num-put 4 (b ++ replicate 5 0) 15 k m (omega arith)
+use Rattle.onlinecheck.proofs.Laws.{formed-page}
+use Rattle.durable.proofs.Laws.{ranged}
+use Rattle.redo.proofs.Loose.{numberedFrom, ≅-equal}
+use Rattle.redo.proofs.Numbered.{entered-page, entered-number, numberedFrom-wide, numberedFrom-formed}
+use Rattle.redo.proofs.Views.{keep-keep, keep-same, keep-same-where}
+use Rattle.seats.proofs.Loops.{evictedEntries, evicted-length, seated-restart, restart-unframed, restart-dirty}
+use Rattle.readback.proofs.Seen.{Areas}
+use Rattle.readback.proofs.Lost.{reads-restarted}
+use Rattle.history.specs.Past.{Past, falls, rises}
+use Rattle.history.specs.Run.{Fits, afterLoss}
+use Rattle.history.proofs.Right.{Ground, DurableRight, LostRight, Right, Down, rowsOf, aboveStamp}
+use Rattle.history.proofs.Tested.{every-keep}
+use Rattle.history.proofs.Settle.{settle}
+use Rattle.history.proofs.Pasts.{past-falls, past-rises, open-falls, open-rises}
 
 -- restart's rule, by the number and page of a row
 abbrev rule : Lent → ℕ → ℕ → Bool
@@ -80,14 +72,6 @@ front-passed c first k (suc d) (one {r = b} {rs = l} w ws) e p m h =
     unpicked true z = absurd (false≢true (sym low ∙ z))
     unpicked false z = refl
 
--- tests that agree on every row of a kind pick the same of them
-keep-agree : (d b c : List ℕ → Bool) → ((r : List ℕ) → d r ≡ true → b r ≡ c r) → (l : List (List ℕ)) → every d l ≡ true → keep b l ≡ keep c l
-unfolding keep every
-keep-agree d b c f [] h = refl
-keep-agree d b c f (r ∷ l) h =
-    let k = and-both (d r) (every d l) h in
-    ap (λ (t : Bool). consIf t r (keep b l)) (f r (k .0)) ∙ ap (λ (m : List (List ℕ)). consIf (c r) r m) (keep-agree d b c f l (k .1))
-
 -- the second rule is that the row is above its stamp; the first decides nothing of such a row
 ruled-above : (x : Bool) (stamp n : ℕ) → (not x && not (leb n stamp)) ≡ true → ltb stamp n ≡ true
 ruled-above x stamp n h = lt-ltb stamp n (leb-false n stamp (not-true (leb n stamp) (and-both (not x) (not (leb n stamp)) h .1)))
@@ -109,7 +93,7 @@ entering-is g done s w d =
     ap (λ (l : List (List ℕ)). entering s (firstOf s) l) (d .log-read)
     ∙ entering-picks s (firstOf s) (wide-drop gone w) (omega (arith, length-drop gone done))
     ∙ sym (front-passed (ruled s) (firstOf s) (g .base + 1) gone w (omega arith) (omega arith) (omega arith) needed)
-    ∙ keep-agree (λ (r : List ℕ). not (above r) || not (passed r)) (ruled s) above (λ r h. ruled-same (passed r) (stampOf s (pageOf r)) (numberOf r) h) (rowsOf g done) (d .entered)
+    ∙ keep-same-where (λ (r : List ℕ). not (above r) || not (passed r)) (ruled s) above (λ r h. ruled-same (passed r) (stampOf s (pageOf r)) (numberOf r) h) (rowsOf g done) (d .entered)
   where
     -- how many log records were dropped
     gone : ℕ
@@ -137,3 +121,88 @@ entering-is g done s w d =
         go : (r : List ℕ) (t : Bool) → ruled s r ≡ t → (not (above r) || leb (firstOf s) (numberOf r)) ≡ true → (not t || leb (firstOf s) (numberOf r)) ≡ true
         go r true e h = ap (λ (t : Bool). not t || leb (firstOf s) (numberOf r)) (sym (ruled-above (passed r) (stampOf s (pageOf r)) (numberOf r) e)) ∙ h
         go r false e h = refl
+
+-- what enters fits the online table
+pub restart-fits : {g : Ground} {done : List (List ℕ)} {h : Past} {s : Lent} → Down g done h s → length (enteringAll s) ≤ roomOf s
+restart-fits {g} {done} {h} {s} d = omega (arith, ap (λ (l : List (List ℕ)). length l) (entering-is g done s (d .past .done-wide) (d .durable)), d .durable .fits)
+
+-- the pages of the committed updates that no stored page holds are pages of the store
+pub rows-below : (g : Ground) (done : List (List ℕ)) (marks : List ℕ) → Wide 14 done → every (wellFormed (g .size) (g .pages)) done ≡ true
+    → every (λ (r : List ℕ). ltb (pageOf r) (g .pages)) (keep (aboveStamp marks) (rowsOf g done)) ≡ true
+rows-below g done marks w f =
+    every-keep (aboveStamp marks) (λ (r : List ℕ). ltb (pageOf r) (g .pages)) (rowsOf g done)
+    (formed-page (g .size) (g .pages) (rowsOf g done) (numberedFrom-formed (g .size) (g .pages) (g .base + 1) w f))
+
+-- with nobody live and no page in a frame, online is what no stored page holds
+module _ (g : Ground) (done : List (List ℕ)) (live : ℕ → Bool) (frames pages : ℕ) (marks stored pool : List ℕ) (rs : List (List ℕ)) where
+  lost-risen : rs ≡ keep (aboveStamp marks) (rowsOf g done) → pages ≡ g .pages → every (λ (r : List ℕ). ltb (pageOf r) pages) rs ≡ true → ((x : ℕ) → live x ≡ false)
+      → LostRight g done [] live frames marks stored pool [] (replicate 32 0) (evictedEntries rs (replicate pages 0)) rs
+  unfolding every
+  lost-risen e n b dead =
+      record {
+        seated = seated-restart frames pages rs b;
+        entries-length = evicted-length rs (replicate pages 0) ∙ length-replicate {A = ℕ} pages 0 ∙ n;
+        lives-length = refl;
+        lives-bits = refl;
+        alive = λ x a c. ap (λ (k : ℕ). eqb k 1) (getD-replicate 32 (x - 1) 0 0 (omega arith)) ∙ sym (dead x);
+        dirty = λ p h. restart-dirty pages rs p (omega arith);
+        online-is = ≅-equal (e ∙ sym (append-nil (keep (aboveStamp marks) (rowsOf g done))));
+        frame = λ p h i. absurd (false≢true (sym (restart-unframed pages rs p (omega arith)) ∙ i));
+      }
+
+-- restart: the history keeps what is committed
+pub keeps-restart : {g : Ground} {done : List (List ℕ)} {h : Past} {s : Lent} → Down g done h s → Right g done (rises h) (restarted s .lent)
+unfolding restarted rises
+keeps-restart {g} {done} {h} {s} d =
+    settle (reads-restarted s (d .areas) (ranged (sizeOf s) (pagesOf s) (framesOf s) (roomOf s) (spanOf s) (d .durable .range) .room-most) (restart-fits d) wide below)
+    (past-rises (d .past)) (d .durable)
+    (subst (λ (o : List (List ℕ)). LostRight g done o (λ (x : ℕ). false) (framesOf s) marks (s .durable .stored) (s .lost .pool) [] (replicate 32 0) (evictedEntries (enteringAll s) (replicate (pagesOf s) 0)) (enteringAll s))
+      (sym (open-rises h))
+      (lost-risen g done (λ (x : ℕ). false) (framesOf s) (pagesOf s) marks (s .durable .stored) (s .lost .pool) (enteringAll s) is (d .durable .pages) below (λ x. refl)))
+  where
+    marks : List ℕ
+    marks = s .durable .marks
+
+    is : enteringAll s ≡ keep (aboveStamp marks) (rowsOf g done)
+    is = entering-is g done s (d .past .done-wide) (d .durable)
+
+    wide : Wide 19 (enteringAll s)
+    wide = subst (λ (l : List (List ℕ)). Wide 19 l) (sym is) (wide-keep (aboveStamp marks) (numberedFrom-wide (g .base + 1) (d .past .done-wide)))
+
+    below : every (λ (r : List ℕ). ltb (pageOf r) (pagesOf s)) (enteringAll s) ≡ true
+    below =
+        ap (λ (n : ℕ). every (λ (r : List ℕ). ltb (pageOf r) n) (enteringAll s)) (d .durable .pages)
+        ∙ ap (λ (l : List (List ℕ)). every (λ (r : List ℕ). ltb (pageOf r) (g .pages)) l) is
+        ∙ rows-below g done marks (d .past .done-wide) (d .past .formed)
+
+-- a power loss leaves the durable part as it is, and the lost areas with their lengths
+areas-fit : {s : Lent} (l : Lost) → Fits s l → Areas s → Areas (afterLoss s l)
+areas-fit l f a = record { tables = f .tables ∙ a .tables; online = f .online ∙ a .online; pool = f .pool ∙ a .pool }
+
+-- restart without a loss, and again
+pub falls-down : {g : Ground} {done : List (List ℕ)} {h : Past} {s : Lent} → Right g done h s → Down g done (falls h) s
+falls-down {h = h} r = record { past = past-falls (r .past); durable = r .durable; areas = r .whole .areas; none-open = open-falls h }
+
+-- a power loss before the restart of another
+pub keeps-loss-down : {g : Ground} {done : List (List ℕ)} {h : Past} {s : Lent} (l : Lost) → Fits s l → Down g done h s → Down g done (falls h) (afterLoss s l)
+keeps-loss-down {h = h} l f d = record { past = past-falls (d .past); durable = d .durable; areas = areas-fit l f (d .areas); none-open = open-falls h }
+
+-- a power loss, at any time
+pub keeps-loss : {g : Ground} {done : List (List ℕ)} {h : Past} {s : Lent} (l : Lost) → Fits s l → Right g done h s → Down g done (falls h) (afterLoss s l)
+keeps-loss {h = h} l f r = record { past = past-falls (r .past); durable = r .durable; areas = areas-fit l f (r .whole .areas); none-open = open-falls h }
+
+-- what a loss left of the history, a restart leaves
+pub rises-falls : (h : Past) → rises (falls h) ≡ rises h
+unfolding rises falls
+rises-falls h = ap (λ (l : List (List ℕ)). record { size = h .size; pages = h .pages; start = h .start; last = h .last; made = l; live = λ (y : ℕ). false; down = false }) twice
+  where
+    both-same : (b : Bool) → (b && b) ≡ b
+    both-same true = refl
+    both-same false = refl
+
+    twice : keep committed (keep committed (h .made)) ≡ keep committed (h .made)
+    twice = keep-keep committed committed (h .made) ∙ keep-same (λ (r : List ℕ). committed r && committed r) committed (λ r. both-same (committed r)) (h .made)
+
+-- restart while power was never lost
+pub keeps-restart-up : {g : Ground} {done : List (List ℕ)} {h : Past} {s : Lent} → Right g done h s → Right g done (rises h) (restarted s .lent)
+keeps-restart-up {g} {done} {h} {s} r = subst (λ (k : Past). Right g done k (restarted s .lent)) (rises-falls h) (keeps-restart (falls-down r))

@@ -1,0 +1,316 @@
+-- The history by itself: what each call, and a loss of power, leaves uncommitted, and that the history stays right.
+-- No byte of the store is looked at; every step's proof takes its part about the history from here.
+use Prim.Native.Nat.{ℕ, _+_, _≤_}
+use native.Mathlib.Omega.{arith}
+use mathlib.Core.Path.{_≡_, refl, sym, ap, _∙_, subst}
+use mathlib.Core.Bool.{Bool, true, false, not, _&&_, _||_, or-true}
+use mathlib.Core.List.{List, [], _∷_, _++_, map, append-assoc}
+use lib.ListN.{length, length-append, length-map}
+use lib.Seq.{getD-take}
+use lib.Dec.{eqb}
+use Rattle.record.specs.Rows.{keep, consIf}
+use Rattle.record.specs.Record.{ownerOf, numberOf, committed, ownedBy, bodyOf, wellFormed}
+use Rattle.table.proofs.Laws.{Wide, none, one, wide-keep, wide-append, wide-bodies}
+use Rattle.rules.specs.Sound.{every, pairs, between, apart}
+use Rattle.onlinecheck.proofs.Rows.{and-both, every-imp}
+use Rattle.redo.proofs.View.{SameBody, keep-append}
+use Rattle.redo.proofs.Views.{keep-keep, keep-same, keep-swap}
+use Rattle.redo.proofs.Loose.{_≅_, still, then, numberedFrom, ≅-sym, ≅-equal, ≅-before, ≅-keep, ≅-wide, ≅-number, owned-open}
+use Rattle.redo.proofs.Numbered.{body-formed, keep-committed-all, keep-open-none, keep-others-all, numberedFrom-append, numberedFrom-wide, numberedFrom-committed}
+use Rattle.redo.proofs.Commits.{commit-loose, commit-open}
+use Rattle.redo.proofs.Reader.{every-keep}
+use Rattle.history.specs.Past.{Past, fresh, begins, updates, commits, aborts, falls, rises}
+use Rattle.history.proofs.Right.{Ground, PastRight, rowsOf, uncommitted, openOf, openRow}
+
+-- tests of two lists, of a list with one more, of what another test leaves
+pub every-append : (b : List ℕ → Bool) (l m : List (List ℕ)) → every b l ≡ true → every b m ≡ true → every b (l ++ m) ≡ true
+unfolding every
+every-append b [] m h k = k
+every-append b (r ∷ l) m h k =
+    let e : (b r ≡ true) × (every b l ≡ true) = and-both (b r) (every b l) h in
+    rw (e .0) (every-append b l m (e .1) k)
+
+every-one : (b : List ℕ → Bool) (r : List ℕ) → b r ≡ true → every b (r ∷ []) ≡ true
+unfolding every
+every-one b r h = rw h
+
+pairs-more : (b : List ℕ → List ℕ → Bool) (l : List (List ℕ)) (r : List ℕ) → pairs b l ≡ true → every (λ (a : List ℕ). b a r) l ≡ true → pairs b (l ++ (r ∷ [])) ≡ true
+unfolding every pairs
+pairs-more b [] r h k = refl
+pairs-more b (x ∷ l) r h k =
+    let e : (every (b x) l ≡ true) × (pairs b l ≡ true) = and-both (every (b x) l) (pairs b l) h in
+    let f : (b x r ≡ true) × (every (λ (a : List ℕ). b a r) l ≡ true) = and-both (b x r) (every (λ (a : List ℕ). b a r) l) k in
+    rw (every-append (b x) l (r ∷ []) (e .0) (every-one (b x) r (f .0))) (pairs-more b l r (e .1) (f .1))
+
+pairs-keep : (b : List ℕ → List ℕ → Bool) (c : List ℕ → Bool) (l : List (List ℕ)) → pairs b l ≡ true → pairs b (keep c l) ≡ true
+unfolding pairs keep
+pairs-keep b c [] h = refl
+pairs-keep b c (x ∷ l) h = pick (c x) (pairs-keep b c l (e .1))
+  where
+    e : (every (b x) l ≡ true) × (pairs b l ≡ true)
+    e = and-both (every (b x) l) (pairs b l) h
+
+    pick : (t : Bool) → pairs b (keep c l) ≡ true → pairs b (consIf t x (keep c l)) ≡ true
+    pick true k = rw (every-keep c (b x) (b x) (λ r p q. q) l (e .0)) k
+    pick false k = k
+
+-- what passes a test passes it
+pub every-kept : (c : List ℕ → Bool) (l : List (List ℕ)) → every c (keep c l) ≡ true
+unfolding every keep
+every-kept c [] = refl
+every-kept c (x ∷ l) = pick (c x) refl (every-kept c l)
+  where
+    pick : (t : Bool) → c x ≡ t → every c (keep c l) ≡ true → every c (consIf t x (keep c l)) ≡ true
+    pick true e k = rw e k
+    pick false e k = k
+
+-- the records of well-formed rows are well formed
+body-same : (r : List ℕ) → SameBody (bodyOf r) r
+body-same r i p q = getD-take 14 r i 0 q
+
+bodies-formed : (size pages : ℕ) (l : List (List ℕ)) → every (wellFormed size pages) l ≡ true → every (wellFormed size pages) (map bodyOf l) ≡ true
+unfolding every
+bodies-formed size pages [] h = refl
+bodies-formed size pages (r ∷ l) h =
+    let e : (wellFormed size pages r ≡ true) × (every (wellFormed size pages) l ≡ true) = and-both (wellFormed size pages r) (every (wellFormed size pages) l) h in
+    rw (body-formed size pages (bodyOf r) r (body-same r) ∙ e .0) (bodies-formed size pages l (e .1))
+
+-- an uncommitted update: its record is well formed; it stays one while its owner is live
+open-formed : (g : Ground) (live : ℕ → Bool) (r : List ℕ) → openRow g live r ≡ true → wellFormed (g .size) (g .pages) r ≡ true
+unfolding openRow
+open-formed g live r h =
+    let a : Bool = wellFormed (g .size) (g .pages) r && between 1 (ownerOf r) 32 in
+    let k = and-both (a && eqb (numberOf r) 0) (live (ownerOf r)) h in
+    let m = and-both a (eqb (numberOf r) 0) (k .0) in
+    and-both (wellFormed (g .size) (g .pages) r) (between 1 (ownerOf r) 32) (m .0) .0
+
+open-live : (g : Ground) (live on : ℕ → Bool) (r : List ℕ) → (live (ownerOf r) ≡ true → on (ownerOf r) ≡ true) → openRow g live r ≡ true → openRow g on r ≡ true
+unfolding openRow
+open-live g live on r f h =
+    let a : Bool = wellFormed (g .size) (g .pages) r && between 1 (ownerOf r) 32 && eqb (numberOf r) 0 in
+    let k : (a ≡ true) × (live (ownerOf r) ≡ true) = and-both a (live (ownerOf r)) h in
+    rw (k .0, f (k .1))
+
+-- what begin, update, commit, abort, a loss and a restart leave uncommitted
+pub open-begin : (h : Past) (x : ℕ) → openOf (begins h x) ≡ openOf h
+unfolding begins
+open-begin h x = refl
+
+pub open-update : (h : Past) (r : List ℕ) → committed r ≡ false → openOf (updates h r) ≡ openOf h ++ (r ∷ [])
+unfolding updates keep
+open-update h r c = keep-append uncommitted (h .made) (r ∷ []) ∙ ap (λ (t : Bool). openOf h ++ consIf (not t) r []) c
+
+-- every update that was made has the width of an online record
+pub made-wide : {g : Ground} {done : List (List ℕ)} {h : Past} → PastRight g done h → Wide 19 (h .made)
+made-wide {g} {done} {h} p = ≅-wide (wide-append (numberedFrom-wide (g .base + 1) (p .done-wide)) (p .open-wide)) (≅-sym (p .made))
+
+pub open-commit : {g : Ground} {done : List (List ℕ)} {h : Past} → PastRight g done h → (x : ℕ) → 1 ≤ x → openOf (commits h x) ≡ keep (λ (r : List ℕ). not (ownedBy x r)) (openOf h)
+unfolding commits
+open-commit {g} {done} {h} p x m = commit-open x (h .last + 1) m (made-wide p)
+
+pub open-abort : (h : Past) (x : ℕ) → openOf (aborts h x) ≡ keep (λ (r : List ℕ). not (ownedBy x r)) (openOf h)
+unfolding aborts
+open-abort h x = keep-swap uncommitted (λ (r : List ℕ). not (ownedBy x r)) (h .made)
+
+open-none : (l : List (List ℕ)) → keep uncommitted (keep committed l) ≡ []
+open-none l = keep-open-none (keep committed l) (every-kept committed l)
+
+pub open-falls : (h : Past) → openOf (falls h) ≡ []
+unfolding falls
+open-falls h = open-none (h .made)
+
+pub open-rises : (h : Past) → openOf (rises h) ≡ []
+unfolding rises
+open-rises h = open-none (h .made)
+
+-- an owner's updates are all uncommitted
+pub owned-made : (h : Past) (x : ℕ) → 1 ≤ x → keep (ownedBy x) (h .made) ≡ keep (ownedBy x) (openOf h)
+owned-made h x m = sym (keep-keep (ownedBy x) uncommitted (h .made) ∙ keep-same (λ (r : List ℕ). uncommitted r && ownedBy x r) (ownedBy x) (λ r. go r (ownedBy x r) refl) (h .made))
+  where
+    none-left : (t : Bool) → (t && false) ≡ false
+    none-left true = refl
+    none-left false = refl
+
+    go : (r : List ℕ) (t : Bool) → ownedBy x r ≡ t → (uncommitted r && t) ≡ t
+    go r true e = ap (λ (s : Bool). not s && true) (owned-open x m r e)
+    go r false e = none-left (uncommitted r)
+
+-- begin: one more is live
+pub past-begin : {g : Ground} {done : List (List ℕ)} {h : Past} → PastRight g done h → (x : ℕ) → PastRight g done (begins h x)
+unfolding begins
+past-begin {g} {done} {h} p x =
+    record {
+      size = p .size;
+      pages = p .pages;
+      start = p .start;
+      last = p .last;
+      bound = p .bound;
+      made = p .made;
+      formed = p .formed;
+      done-wide = p .done-wide;
+      open-rows = every-imp (openRow g (h .live)) (openRow g on) (λ r k. open-live g (h .live) on r (also (ownerOf r)) k) (openOf h) (p .open-rows);
+      open-wide = p .open-wide;
+      apart = p .apart;
+    }
+  where
+    on : ℕ → Bool
+    on y = eqb y x || h .live y
+
+    also : (y : ℕ) → h .live y ≡ true → on y ≡ true
+    also y e = ap (λ (t : Bool). eqb y x || t) e ∙ or-true (eqb y x)
+
+-- update: one more row, well formed, of a live owner, apart from the others' uncommitted updates
+pub past-update : {g : Ground} {done : List (List ℕ)} {h : Past} → PastRight g done h → (r : List ℕ) → length r ≡ 19 → committed r ≡ false → openRow g (h .live) r ≡ true → every (λ (a : List ℕ). apart a r) (openOf h) ≡ true → PastRight g done (updates h r)
+unfolding updates
+past-update {g} {done} {h} p r w c o a =
+    record {
+      size = p .size;
+      pages = p .pages;
+      start = p .start;
+      last = p .last;
+      bound = p .bound;
+      made = then (≅-before (r ∷ []) (p .made)) (≅-equal (append-assoc (rowsOf g done) (openOf h) (r ∷ []) ∙ ap (λ (l : List (List ℕ)). rowsOf g done ++ l) (sym e)));
+      formed = p .formed;
+      done-wide = p .done-wide;
+      open-rows = ap (λ (l : List (List ℕ)). every (openRow g (h .live)) l) e ∙ every-append (openRow g (h .live)) (openOf h) (r ∷ []) (p .open-rows) (every-one (openRow g (h .live)) r o);
+      open-wide = subst (λ (l : List (List ℕ)). Wide 19 l) (sym e) (wide-append (p .open-wide) (one w none));
+      apart = ap (λ (l : List (List ℕ)). pairs apart l) e ∙ pairs-more apart (openOf h) r (p .apart) a;
+    }
+  where
+    e : openOf (updates h r) ≡ openOf h ++ (r ∷ [])
+    e = open-update h r c
+
+-- those that are not the owner's are of owners that stay live
+others-live : (g : Ground) (live : ℕ → Bool) (x : ℕ) (o : List (List ℕ)) → every (openRow g live) o ≡ true → every (openRow g (λ (y : ℕ). not (eqb y x) && live y)) (keep (λ (r : List ℕ). not (ownedBy x r)) o) ≡ true
+others-live g live x o h =
+    every-keep (λ (r : List ℕ). not (ownedBy x r)) (openRow g live) (openRow g on) (λ r n k. open-live g live on r (λ e. ap (λ (t : Bool). t && live (ownerOf r)) n ∙ e) k) o h
+  where
+    on : ℕ → Bool
+    on y = not (eqb y x) && live y
+
+-- abort: the owner's updates are taken back, and nothing else
+pub past-abort : {g : Ground} {done : List (List ℕ)} {h : Past} → PastRight g done h → (x : ℕ) → 1 ≤ x → PastRight g done (aborts h x)
+unfolding aborts
+past-abort {g} {done} {h} p x m =
+    record {
+      size = p .size;
+      pages = p .pages;
+      start = p .start;
+      last = p .last;
+      bound = p .bound;
+      made = then (≅-keep other (p .made)) (≅-equal (keep-append other (rowsOf g done) (openOf h)
+          ∙ ap (λ (l : List (List ℕ)). l ++ keep other (openOf h)) (keep-others-all x (rowsOf g done) m (numberedFrom-committed (g .base + 1) (p .done-wide)))
+          ∙ ap (λ (l : List (List ℕ)). rowsOf g done ++ l) (sym e)));
+      formed = p .formed;
+      done-wide = p .done-wide;
+      open-rows = ap (λ (l : List (List ℕ)). every (openRow g (λ (y : ℕ). not (eqb y x) && h .live y)) l) e ∙ others-live g (h .live) x (openOf h) (p .open-rows);
+      open-wide = subst (λ (l : List (List ℕ)). Wide 19 l) (sym e) (wide-keep other (p .open-wide));
+      apart = ap (λ (l : List (List ℕ)). pairs apart l) e ∙ pairs-keep apart other (openOf h) (p .apart);
+    }
+  where
+    other : List ℕ → Bool
+    other r = not (ownedBy x r)
+
+    e : openOf (aborts h x) ≡ keep other (openOf h)
+    e = open-abort h x
+
+-- commit: the owner's updates are committed behind all that was, in the order made; `mine` is those updates, as any table has them
+pub past-commit-of : {g : Ground} {done : List (List ℕ)} {h : Past} → PastRight g done h → (x : ℕ) → 1 ≤ x → (mine : List (List ℕ)) → mine ≡ keep (ownedBy x) (openOf h) → h .last + length mine ≤ 4294967295 → PastRight g (done ++ map bodyOf mine) (commits h x)
+unfolding commits
+past-commit-of {g} {done} {h} p x m mine f b =
+    record {
+      size = p .size;
+      pages = p .pages;
+      start = p .start;
+      last = omega (arith, count, p .last, length-append done (map bodyOf mine), length-map mine bodyOf);
+      bound = omega (arith, count);
+      made = then (≅-number x (h .last + 1) m (p .made))
+          (then (commit-loose x (h .last + 1) (rowsOf g done) (openOf h) m (numberedFrom-committed (g .base + 1) (p .done-wide)) (every-kept uncommitted (h .made)) (p .apart) (p .open-wide))
+          (≅-equal (sym (append-assoc (rowsOf g done) (fresh-rows (keep (ownedBy x) (openOf h))) (keep other (openOf h)))
+          ∙ ap (λ (l : List (List ℕ)). (rowsOf g done ++ fresh-rows l) ++ keep other (openOf h)) (sym f)
+          ∙ ap (λ (l : List (List ℕ)). (rowsOf g done ++ fresh-rows mine) ++ l) (sym e)
+          ∙ ap (λ (l : List (List ℕ)). l ++ openOf (commits h x)) joined)));
+      formed = every-append (wellFormed (g .size) (g .pages)) done (map bodyOf mine) (p .formed) (bodies-formed (g .size) (g .pages) mine own-formed);
+      done-wide = wide-append (p .done-wide) (wide-bodies (subst (λ (l : List (List ℕ)). Wide 19 l) (sym f) (wide-keep (ownedBy x) (p .open-wide))));
+      open-rows = ap (λ (l : List (List ℕ)). every (openRow g (λ (y : ℕ). not (eqb y x) && h .live y)) l) e ∙ others-live g (h .live) x (openOf h) (p .open-rows);
+      open-wide = subst (λ (l : List (List ℕ)). Wide 19 l) (sym e) (wide-keep other (p .open-wide));
+      apart = ap (λ (l : List (List ℕ)). pairs apart l) e ∙ pairs-keep apart other (openOf h) (p .apart);
+    }
+  where
+    other : List ℕ → Bool
+    other r = not (ownedBy x r)
+
+    fresh-rows : List (List ℕ) → List (List ℕ)
+    fresh-rows l = numberedFrom (h .last + 1) (map bodyOf l)
+
+    e : openOf (commits h x) ≡ keep other (openOf h)
+    e = open-commit p x m
+
+    count : length (keep (ownedBy x) (h .made)) ≡ length mine
+    count = ap (λ (l : List (List ℕ)). length l) (owned-made h x m ∙ sym f)
+
+    joined : rowsOf g done ++ fresh-rows mine ≡ rowsOf g (done ++ map bodyOf mine)
+    joined =
+        let k : h .last + 1 ≡ g .base + 1 + length done = omega (arith, p .last) in
+        ap (λ (n : ℕ). rowsOf g done ++ numberedFrom n (map bodyOf mine)) k ∙ sym (numberedFrom-append (g .base + 1) done (map bodyOf mine))
+
+    own-formed : every (wellFormed (g .size) (g .pages)) mine ≡ true
+    own-formed =
+        ap (λ (l : List (List ℕ)). every (wellFormed (g .size) (g .pages)) l) f
+        ∙ every-keep (ownedBy x) (openRow g (h .live)) (wellFormed (g .size) (g .pages)) (λ r q k. open-formed g (h .live) r k) (openOf h) (p .open-rows)
+
+pub past-commit : {g : Ground} {done : List (List ℕ)} {h : Past} → PastRight g done h → (x : ℕ) → 1 ≤ x → h .last + length (keep (ownedBy x) (h .made)) ≤ 4294967295 → PastRight g (done ++ map bodyOf (keep (ownedBy x) (openOf h))) (commits h x)
+past-commit {g} {done} {h} p x m b =
+    past-commit-of p x m (keep (ownedBy x) (openOf h)) refl (omega (arith, b, ap (λ (l : List (List ℕ)). length l) (owned-made h x m)))
+
+-- a loss, and a restart: what is committed remains
+abbrev bared : Past → Bool → Past
+bared h down = record { size = h .size; pages = h .pages; start = h .start; last = h .last; made = keep committed (h .made); live = λ (y : ℕ). false; down = down }
+
+past-bare : {g : Ground} {done : List (List ℕ)} {h : Past} → PastRight g done h → (down : Bool) → PastRight g done (bared h down)
+unfolding every pairs
+past-bare {g} {done} {h} p down =
+    record {
+      size = p .size;
+      pages = p .pages;
+      start = p .start;
+      last = p .last;
+      bound = p .bound;
+      made = then (≅-keep committed (p .made)) (≅-equal (keep-append committed (rowsOf g done) (openOf h)
+          ∙ ap (λ (l : List (List ℕ)). l ++ keep committed (openOf h)) (keep-committed-all (rowsOf g done) (numberedFrom-committed (g .base + 1) (p .done-wide)))
+          ∙ ap (λ (l : List (List ℕ)). rowsOf g done ++ l) (keep-swap committed uncommitted (h .made))));
+      formed = p .formed;
+      done-wide = p .done-wide;
+      open-rows = ap (λ (l : List (List ℕ)). every (openRow g (λ (y : ℕ). false)) l) e;
+      open-wide = subst (λ (l : List (List ℕ)). Wide 19 l) (sym e) none;
+      apart = ap (λ (l : List (List ℕ)). pairs apart l) e;
+    }
+  where
+    e : keep uncommitted (keep committed (h .made)) ≡ []
+    e = open-none (h .made)
+
+pub past-falls : {g : Ground} {done : List (List ℕ)} {h : Past} → PastRight g done h → PastRight g done (falls h)
+unfolding falls
+past-falls p = past-bare p true
+
+pub past-rises : {g : Ground} {done : List (List ℕ)} {h : Past} → PastRight g done h → PastRight g done (rises h)
+unfolding rises
+past-rises p = past-bare p false
+
+-- format: nothing is committed yet, and nothing made
+pub past-fresh : (size pages last : ℕ) (start : List ℕ) → last ≤ 4294967295 → PastRight (record { size = size; pages = pages; start = start; base = last }) [] (fresh size pages last start)
+unfolding fresh keep every pairs numberedFrom
+past-fresh size pages last start b =
+    record {
+      size = refl;
+      pages = refl;
+      start = refl;
+      last = omega arith;
+      bound = b;
+      made = still;
+      formed = refl;
+      done-wide = none;
+      open-rows = refl;
+      open-wide = none;
+      apart = refl;
+    }
