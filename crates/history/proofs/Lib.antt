@@ -8,6 +8,8 @@ pub mod Aborts
 pub mod Tested
 pub mod Soundly
 pub mod Known
+pub mod Least
+pub mod Closes
 pub mod Saying
 pub mod CommitDurable
 pub mod Commits
