@@ -20,3 +20,4 @@ pub mod Twins
 pub mod Folding
 pub mod Restamped
 pub mod Compacts
+pub mod Checkpoints
