@@ -108,6 +108,20 @@ module _ (s : Lent) (n x p offset w : ℕ) where
       let h = went (ltb n w) ShortBuffer r7 (g .1) in
       (a .0, ltb-true p (pagesOf s) (holds (ltb p (pagesOf s)) (b .0)), leb-true (offset + w) (sizeOf s) (holds (leb (offset + w) (sizeOf s)) (g .0)), ltb-false n w (h .0))
 
+  -- whose read it is, and that nobody else holds a byte of it
+  pub read-whose : judgeRead s n x p offset w ≡ Go → (isNumber x ≡ true) × (isLive (s .lost .tables) x ≡ true) × (held (onlineOf s) x p offset w ≡ false)
+  unfolding judgeRead mayRead
+  read-whose e =
+      let a = checked-went s (refuseIf (not (ltb p (pagesOf s))) (Argument Page) r3) e in
+      let b = went (not (ltb p (pagesOf s))) (Argument Page) r3 (a .1) in
+      let d = went (not (isNumber x)) (Argument Number) r4 (b .1) in
+      let f = went (not (between 1 w (sizeOf s))) (Argument Length) r5 (d .1) in
+      let g = went (not (leb (offset + w) (sizeOf s))) (Argument Place) r6 (f .1) in
+      let h = went (ltb n w) ShortBuffer r7 (g .1) in
+      let i = went (not (isLive (s .lost .tables) x)) NotLive r8 (h .1) in
+      let j = went (held (onlineOf s) x p offset w) Held Go (i .1) in
+      (holds (isNumber x) (d .0), holds (isLive (s .lost .tables) x) (i .0), j .0)
+
 or-four : (a b c d : Bool) (n : ℕ) → (a ≡ true → n ≤ 8) → (b ≡ true → n ≤ 8) → (c ≡ true → n ≤ 8) → (d ≡ true → n ≤ 8) → (a || b || c || d) ≡ true → n ≤ 8
 or-four true b c d n f g h k e = f refl
 or-four false true c d n f g h k e = g refl
@@ -159,6 +173,21 @@ module _ (s : Lent) (x p offset w kind v : ℕ) where
       let m = went (ltb (roomOf s - countOf s) 1) OnlineFull Go (l .1) in
       let free : 1 ≤ roomOf s - countOf s = ltb-false (roomOf s - countOf s) 1 (m .0) in
       (a .0, ltb-true p (pagesOf s) (holds (ltb p (pagesOf s)) (b .0)), leb-true (offset + w) (sizeOf s) (holds (leb (offset + w) (sizeOf s)) (g .0)), length-most w (holds (isLength w) (f .0)), omega arith, holds (isNumber x) (d .0), leb-true kind 1 (holds (leb kind 1) (i .0)))
+
+  -- whose update it is, and what it writes
+  pub update-whose : judgeUpdate s x p offset w kind v ≡ Go → (isLength w ≡ true) × (v < 256 ^ w) × (isLive (s .lost .tables) x ≡ true) × (held (onlineOf s) x p offset w ≡ false)
+  unfolding judgeUpdate mayUpdate
+  update-whose e =
+      let a = checked-went s (refuseIf (not (ltb p (pagesOf s))) (Argument Page) u3) e in
+      let b = went (not (ltb p (pagesOf s))) (Argument Page) u3 (a .1) in
+      let d = went (not (isNumber x)) (Argument Number) u4 (b .1) in
+      let f = went (not (isLength w)) (Argument Length) u5 (d .1) in
+      let g = went (not (leb (offset + w) (sizeOf s))) (Argument Place) u6 (f .1) in
+      let h = went (not (ltb v (256 ^ w))) (Argument Value) u7 (g .1) in
+      let i = went (not (leb kind 1)) (Argument Kind) u8 (h .1) in
+      let j = went (not (isLive (s .lost .tables) x)) NotLive u9 (i .1) in
+      let l = went (held (onlineOf s) x p offset w) Held u10 (j .1) in
+      (holds (isLength w) (f .0), ltb-true v (256 ^ w) (holds (ltb v (256 ^ w)) (h .0)), holds (isLive (s .lost .tables) x) (j .0), l .0)
 
 pub compact-went : (s : Lent) (p a b : ℕ) → judgeCompact s p a b ≡ Go → (sound s ≡ true) × (p < pagesOf s)
 unfolding judgeCompact mayCompact

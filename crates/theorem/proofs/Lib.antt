@@ -1,0 +1,4 @@
+-- The theorem, a part a file.
+pub mod Stands
+pub mod Theorem
+pub mod Doors
