@@ -35,7 +35,7 @@ const fn durable(clause: Clause, name: &'static str, strike: fn(&mut Areas, &mut
     Wound { clause, name, durable: true, strike }
 }
 
-/// Every clause but S-params and S-lengths, which have runs of their own below.
+/// Every clause but S1 and S2, which have runs of their own below.
 const WOUNDS: &[Wound] = &[
     durable(Clause::Counts, "n one past the log", |a, _| {
         let size = a.sizes().log_size;
@@ -137,22 +137,6 @@ const WOUNDS: &[Wound] = &[
     lost(Clause::Record, "online value too large for its length", |a, random| {
         edit_online(a, random, |row| uncommitted(row) && row[4] < 8, |row| row[6 + usize::from(row[4])] = 1)
     }),
-    lost(Clause::Record, "owner 33", |a, random| edit_online(a, random, uncommitted, |row| row[14] = 33)),
-    lost(Clause::Record, "owner 255", |a, random| edit_online(a, random, uncommitted, |row| row[14] = 255)),
-    lost(Clause::Record, "uncommitted with a number", |a, random| {
-        edit_online(a, random, uncommitted, |row| row[15] = 1)
-    }),
-    lost(Clause::Record, "committed with an owner", |a, random| {
-        a.tables[3 + 6] = 1;
-        edit_online(a, random, committed, |row| row[14] = 7)
-    }),
-    lost(Clause::Record, "neither owner nor number", |a, random| {
-        edit_online(a, random, |_| true, |row| row[14..19].fill(0))
-    }),
-    lost(Clause::Record, "number L + 1", |a, random| {
-        let Some(number) = a.last().checked_add(1) else { return false };
-        edit_online(a, random, committed, |row| put4(row, 15, number))
-    }),
     lost(Clause::Record, "a row of zeros inside the count", |a, _| {
         let count = a.online_count();
         put2(&mut a.tables, 0, count as u16 + 1);
@@ -192,7 +176,23 @@ const WOUNDS: &[Wound] = &[
         put4(&mut a.marks, 8, logged + 1);
         true
     }),
-    lost(Clause::OwnerLive, "an owner not live", |a, random| {
+    lost(Clause::Owner, "owner 33", |a, random| edit_online(a, random, uncommitted, |row| row[14] = 33)),
+    lost(Clause::Owner, "owner 255", |a, random| edit_online(a, random, uncommitted, |row| row[14] = 255)),
+    lost(Clause::Owner, "uncommitted with a number", |a, random| {
+        edit_online(a, random, uncommitted, |row| row[15] = 1)
+    }),
+    lost(Clause::Owner, "committed with an owner", |a, random| {
+        a.tables[3 + 6] = 1;
+        edit_online(a, random, committed, |row| row[14] = 7)
+    }),
+    lost(Clause::Owner, "neither owner nor number", |a, random| {
+        edit_online(a, random, |_| true, |row| row[14..19].fill(0))
+    }),
+    lost(Clause::Owner, "number L + 1", |a, random| {
+        let Some(number) = a.last().checked_add(1) else { return false };
+        edit_online(a, random, committed, |row| put4(row, 15, number))
+    }),
+    lost(Clause::Owner, "an owner not live", |a, random| {
         let Some(row) = row_with(a, random, uncommitted) else { return false };
         let owner = usize::from(a.online[ONLINE_ROW * row + 14]);
         a.tables[2 + owner.min(32)] = 0;
@@ -581,12 +581,12 @@ pub fn run<S: Store + Clone>(store: &S, seed: u64, coverage: &mut Coverage) -> (
     let before = (run.failed, run.calls);
     let parts = sizes_out_of_range(&mut run);
     tally(&mut run, before.0, parts);
-    println!("  {parts} sizes out of range (S-params): {} calls", run.calls - before.1);
+    println!("  {parts} sizes out of range (S1): {} calls", run.calls - before.1);
 
     let before = (run.failed, run.calls);
     let parts = wrong_lengths(&mut run, &stores);
     tally(&mut run, before.0, parts);
-    println!("  {parts} wrong lengths (S-lengths): {} calls", run.calls - before.1);
+    println!("  {parts} wrong lengths (S2): {} calls", run.calls - before.1);
 
     let before = (run.failed, run.calls);
     let parts = several(&mut run, &stores, 1500);
@@ -667,14 +667,14 @@ fn sizes_out_of_range<S: Store>(run: &mut Run<S>) -> u64 {
         Sizes { pages: 0, frames: 0, online_size: 0, log_size: 0, page_size: 0 },
     ];
     for sizes in odd {
-        run.every_call(&fresh(&sizes, 7), sizes, Some(true), &format!("S-params: {sizes:?}"));
+        run.every_call(&fresh(&sizes, 7), sizes, Some(true), &format!("S1: {sizes:?}"));
         parts += 1;
     }
     for field in 0..5 {
         for value in [0x8000_0000, u32::MAX] {
             let mut a = fresh(&sound, 7);
             put4(&mut a.fixed, 4 * field, value);
-            run.every_call(&a, a.sizes(), Some(true), &format!("S-params: field {field} is {value}"));
+            run.every_call(&a, a.sizes(), Some(true), &format!("S1: field {field} is {value}"));
             parts += 1;
         }
     }
@@ -694,7 +694,7 @@ fn wrong_lengths<S: Store>(run: &mut Run<S>, stores: &[Areas]) -> u64 {
             for changed in [0, length - 1, length + 1, length - row, length + row, 2 * length] {
                 let mut a = store.clone();
                 a.each_mut()[area].set_length(changed);
-                run.every_call(&a, sizes, Some(true), &format!("S-lengths: {name} of {changed} bytes, not {length}"));
+                run.every_call(&a, sizes, Some(true), &format!("S2: {name} of {changed} bytes, not {length}"));
                 parts += 1;
             }
         }
