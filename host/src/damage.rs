@@ -552,11 +552,14 @@ fn fresh(sizes: &Sizes, last: u32) -> Areas {
     a
 }
 
-/// The damage runs. Gives how many passed and failed: a wound, a length, a size, a mixture each counts as one.
-pub fn run<S: Store + Clone>(store: &S, seed: u64, coverage: &mut Coverage) -> (u64, u64) {
+/// The damage runs, so many percent of what a gate wants. Gives how many passed and failed: a wound, a length, a size,
+/// a mixture each counts as one.
+pub fn run<S: Store + Clone>(store: &S, seed: u64, percent: u64, coverage: &mut Coverage) -> (u64, u64) {
     let mut random = Random::new(seed);
     println!("  seed {seed}");
-    let stores = sound_stores(&mut random, 600);
+    let some = |count: u64| (count * percent).div_ceil(100);
+    // However little is asked for, there must be a place for every wound.
+    let stores = sound_stores(&mut random, some(600).max(150) as usize);
     let mut run = Run { store: store.clone(), random, coverage, calls: 0, failed: 0, quiet: false };
     let (mut passed, mut failed) = (0, 0);
     let mut progress = Progress::new("damage");
@@ -568,7 +571,7 @@ pub fn run<S: Store + Clone>(store: &S, seed: u64, coverage: &mut Coverage) -> (
 
     for (i, wound) in WOUNDS.iter().enumerate() {
         let before = run.failed;
-        let hits = strike(&mut run, wound, &stores, 8);
+        let hits = strike(&mut run, wound, &stores, some(8));
         progress.tell(|| format!("{} of {} wounds, {} calls", i + 1, WOUNDS.len(), run.calls));
         if hits == 0 {
             println!("  FAILED  {}: {}: no store has a place for it; add stores", wound.clause.label(), wound.name);
@@ -584,22 +587,22 @@ pub fn run<S: Store + Clone>(store: &S, seed: u64, coverage: &mut Coverage) -> (
     println!("  {parts} sizes out of range (S1): {} calls", run.calls - before.1);
 
     let before = (run.failed, run.calls);
-    let parts = wrong_lengths(&mut run, &stores);
+    let parts = wrong_lengths(&mut run, &stores[..some(12) as usize]);
     tally(&mut run, before.0, parts);
     println!("  {parts} wrong lengths (S2): {} calls", run.calls - before.1);
 
     let before = (run.failed, run.calls);
-    let parts = several(&mut run, &stores, 1500);
+    let parts = several(&mut run, &stores, some(1500));
     tally(&mut run, before.0, parts);
     println!("  {parts} stores with several wounds: {} calls", run.calls - before.1);
 
     let before = (run.failed, run.calls);
-    let parts = random_bytes(&mut run, &stores, 30_000, &mut progress);
+    let parts = random_bytes(&mut run, &stores, some(30_000), &mut progress);
     tally(&mut run, before.0, parts);
     println!("  {parts} stores with random bytes changed");
 
     let before = run.failed;
-    let parts = garbage(&mut run, &stores);
+    let parts = garbage(&mut run, &stores[..some(100) as usize]);
     tally(&mut run, before, parts);
     println!("  {parts} stores full of garbage");
     if failed > 0 {
@@ -616,7 +619,7 @@ pub fn catches<S: Store + Clone>(store: &S, clause: Clause, seed: u64) -> bool {
     let mut run = Run { store: store.clone(), random, coverage: &mut coverage, calls: 0, failed: 0, quiet: true };
     match clause {
         Clause::Params => drop(sizes_out_of_range(&mut run)),
-        Clause::Lengths => drop(wrong_lengths(&mut run, &stores)),
+        Clause::Lengths => drop(wrong_lengths(&mut run, &stores[..12])),
         _ => {
             for wound in WOUNDS.iter().filter(|wound| wound.clause == clause) {
                 strike(&mut run, wound, &stores, 3);
@@ -686,7 +689,7 @@ fn wrong_lengths<S: Store>(run: &mut Run<S>, stores: &[Areas]) -> u64 {
     let largest = Sizes { page_size: 512, pages: 1024, frames: 64, online_size: 512, log_size: 2048 };
     let largest = fresh(&largest, 7);
     let mut parts = 0;
-    for store in stores.iter().take(12).chain([&largest]) {
+    for store in stores.iter().chain([&largest]) {
         let sizes = store.sizes();
         for (area, name) in AREA_NAMES.iter().enumerate() {
             let length = store.each()[area].len();
@@ -759,7 +762,7 @@ fn random_bytes<S: Store>(run: &mut Run<S>, stores: &[Areas], wanted: u64, progr
 /// Whole areas of garbage: all of them, the durable part, the lost part.
 fn garbage<S: Store>(run: &mut Run<S>, stores: &[Areas]) -> u64 {
     let mut parts = 0;
-    for store in stores.iter().take(100) {
+    for store in stores {
         for which in [&[0, 1, 2, 3, 4, 5, 6][..], &[1, 2, 3], &[1], &[2], &[4, 5, 6], &[4], &[5]] {
             let mut a = store.clone();
             which.iter().for_each(|&area| run.random.fill(a.each_mut()[area]));

@@ -10,6 +10,7 @@ mod calls;
 mod cases;
 mod coverage;
 mod damage;
+mod fence;
 mod history;
 mod machine;
 mod pair;
@@ -22,6 +23,7 @@ mod states;
 mod twin;
 mod wrong;
 
+use calls::Store;
 use coverage::Coverage;
 use machine::Judges;
 use progress::Progress;
@@ -42,6 +44,10 @@ const LINKED: bool = cfg!(archive);
 /// Calls in a gate run.
 const CALLS: u64 = 1_000_000;
 
+/// Calls in the sessions between fences, on each side.
+#[cfg(archive)]
+const FENCED_CALLS: u64 = 60_000;
+
 /// Of these, so many to one are transaction calls of pairs.
 const PAIRS_PART: u64 = 10;
 
@@ -50,6 +56,7 @@ fn usage() -> ExitCode {
         "usage: ventarico-host cases                    the named cases of document 01\n\
          \x20      ventarico-host sessions [calls] [seed]  random sessions (default {CALLS} calls, a new seed)\n\
          \x20      ventarico-host damage [seed]            stores that are not sound\n\
+         \x20      ventarico-host fences [percent] [seed]  damage and sessions on slices between fences (default 100)\n\
          \x20      ventarico-host pairs [calls] [seed]     pairs of stores with the same transactions (default {})\n\
          \x20      ventarico-host wrong [seed]             wrong stores, each of which must be caught\n\
          \x20      ventarico-host coverage [calls] [seed]  sessions and damage, then what they have shown\n\
@@ -77,20 +84,32 @@ fn main() -> ExitCode {
     let mut coverage = Coverage::new();
     let (passed, failed) = match (words.first().map(String::as_str), numbers.len()) {
         (Some("cases"), 0) => cases(),
-        (Some("sessions"), 0..=2) => sessions(calls, seed, &mut coverage),
+        (Some("sessions"), 0..=2) => sessions(&Tested {}, calls, seed, &mut coverage),
         (Some("pairs"), 0) => pairs(CALLS / PAIRS_PART, seed),
         (Some("pairs"), 1..=2) => pairs(calls, seed),
-        (Some("damage"), 0..=1) => damage(only_seed, &mut coverage),
+        (Some("damage"), 0..=1) => damage(&Tested {}, only_seed, 100, &mut coverage),
+        (Some("fences"), 0) => fences(100, seed),
+        (Some("fences"), 1..=2) => fences(numbers[0], seed),
+        // For `fences`, which runs this program anew for each.
+        (Some("stray"), 1) => {
+            fence::go_astray(numbers[0] as usize);
+            (0, 1)
+        }
         (Some("wrong"), 0..=1) => wrong(only_seed),
         (Some("coverage"), 0..=2) => {
-            let parts = [sessions(calls, seed, &mut coverage), damage(seed, &mut coverage), covered(&coverage)];
+            let parts = [
+                sessions(&Tested {}, calls, seed, &mut coverage),
+                damage(&Tested {}, seed, 100, &mut coverage),
+                covered(&coverage),
+            ];
             sum(&parts)
         }
         (Some("all"), 0..=2) => {
             let parts = [
                 cases(),
-                sessions(calls, seed, &mut coverage),
-                damage(seed, &mut coverage),
+                sessions(&Tested {}, calls, seed, &mut coverage),
+                damage(&Tested {}, seed, 100, &mut coverage),
+                fences(100, seed),
                 pairs(calls / PAIRS_PART, seed),
                 wrong(seed),
                 covered(&coverage),
@@ -123,14 +142,14 @@ fn cases() -> (u64, u64) {
 }
 
 /// Random sessions, seed after seed, until the calls are made or one fails.
-fn sessions(calls: u64, seed: u64, coverage: &mut Coverage) -> (u64, u64) {
+fn sessions<S: Store + Clone>(store: &S, calls: u64, seed: u64, coverage: &mut Coverage) -> (u64, u64) {
     println!("\nsessions: {calls} calls, first seed {seed}");
     let judges = Judges { twin: LINKED, history: true, wild: false };
     let mut progress = Progress::new("sessions");
     let (mut made, mut passed) = (0, 0);
     while made < calls {
         let this = seed.wrapping_add(passed);
-        let ran = session::run(&Tested {}, judges, this, u64::MAX, coverage);
+        let ran = session::run(store, judges, this, u64::MAX, coverage);
         made += ran.calls;
         if let Some((steps, why)) = ran.failure {
             println!(
@@ -140,9 +159,9 @@ fn sessions(calls: u64, seed: u64, coverage: &mut Coverage) -> (u64, u64) {
             );
             println!("  cutting it down");
             let judges = Judges { wild: Profile::of(this).wild, ..judges };
-            let steps = machine::shrink(&Tested {}, judges, steps, Duration::from_secs(60));
+            let steps = machine::shrink(store, judges, steps, Duration::from_secs(60));
             println!("  its shortest form, {} steps:", steps.len());
-            machine::print_failing(&Tested {}, judges, &steps);
+            machine::print_failing(store, judges, &steps);
             println!("  next: write these calls down as a case, mend, then run `sessions 1 {this}` and the gate again");
             return (passed, 1);
         }
@@ -208,9 +227,37 @@ fn pairs(calls: u64, seed: u64) -> (u64, u64) {
     (passed, failed)
 }
 
-fn damage(seed: u64, coverage: &mut Coverage) -> (u64, u64) {
+fn damage<S: Store + Clone>(store: &S, seed: u64, percent: u64, coverage: &mut Coverage) -> (u64, u64) {
     println!("\ndamage");
-    damage::run(&Tested {}, seed, coverage)
+    damage::run(store, seed, percent, coverage)
+}
+
+/// Damage and sessions on slices that end at a fence, then on slices that begin at one. First what the fences catch.
+fn fences(percent: u64, seed: u64) -> (u64, u64) {
+    println!("\nfences: what they must catch, each in a process of its own");
+    let (caught, missed) = fence::catch_strays().unwrap_or_else(|why| (0, vec![format!("no process: {why}")]));
+    println!(
+        "  {caught} strays caught: a byte read or written beside a slice, or written where it is lent for reading"
+    );
+    missed.iter().for_each(|what| println!("  FAILED  not caught: {what}"));
+    sum(&[(caught, missed.len() as u64), fenced(percent, seed)])
+}
+
+#[cfg(archive)]
+fn fenced(percent: u64, seed: u64) -> (u64, u64) {
+    let runs = [fence::Side::Behind, fence::Side::Before].map(|side| {
+        println!("\nfences: each lent slice has one just {}", format!("{side:?}").to_lowercase());
+        let store = Tested::fenced(side);
+        let damaged = damage(&store, seed, percent, &mut Coverage::off());
+        sum(&[damaged, sessions(&store, FENCED_CALLS * percent / 100, seed, &mut Coverage::off())])
+    });
+    sum(&runs)
+}
+
+#[cfg(not(archive))]
+fn fenced(_: u64, _: u64) -> (u64, u64) {
+    println!("  no store is linked that could go astray");
+    (0, 0)
 }
 
 /// Wrong stores. Each must be caught by the sessions, held to the second program; those that touch committed data
