@@ -592,6 +592,15 @@ pub fn run<S: Store + Clone>(store: &S, seed: u64, percent: u64, coverage: &mut 
     println!("  {parts} wrong lengths (S2): {} calls", run.calls - before.1);
 
     let before = (run.failed, run.calls);
+    let (parts, without) = two_clauses(&mut run, &stores);
+    for (one, two) in &without {
+        println!("  FAILED  {} with {}: no store has a place for both; add stores", one.label(), two.label());
+        run.failed += 1;
+    }
+    tally(&mut run, before.0, parts);
+    println!("  {parts} pairs of clauses, both broken: {} calls", run.calls - before.1);
+
+    let before = (run.failed, run.calls);
     let parts = several(&mut run, &stores, some(1500));
     tally(&mut run, before.0, parts);
     println!("  {parts} stores with several wounds: {} calls", run.calls - before.1);
@@ -703,6 +712,53 @@ fn wrong_lengths<S: Store>(run: &mut Run<S>, stores: &[Areas]) -> u64 {
         }
     }
     parts
+}
+
+/// Every two clauses broken on one store. Gives how many pairs there are, and those that no store had a place for.
+fn two_clauses<S: Store>(run: &mut Run<S>, stores: &[Areas]) -> (u64, Vec<(Clause, Clause)>) {
+    let (mut parts, mut without) = (0, Vec::new());
+    for (i, (one, _)) in Clause::ALL.into_iter().enumerate() {
+        for (two, _) in Clause::ALL.into_iter().skip(i + 1) {
+            // The earlier clause last: after a wrong count or length there are no rows to look at.
+            let broken = stores.iter().find_map(|store| {
+                let mut a = store.clone();
+                let broke_two = break_clause(&mut a, two, &mut run.random) && sound::broken(&a).has(two);
+                let struck_one = broke_two && break_clause(&mut a, one, &mut run.random);
+                // With n above L the check looks no further.
+                (struck_one && (sound::broken(&a).has(one) || two == Clause::NLeL)).then_some(a)
+            });
+            parts += 1;
+            let Some(a) = broken else {
+                without.push((one, two));
+                continue;
+            };
+            let durable = !sound::broken_durable(&a).none();
+            run.every_call(&a, a.sizes(), Some(durable), &format!("{} with {}", one.label(), two.label()));
+        }
+    }
+    (parts, without)
+}
+
+/// Breaks the clause by one of its wounds. False if this store has no place for any.
+fn break_clause(a: &mut Areas, clause: Clause, random: &mut Random) -> bool {
+    match clause {
+        Clause::Params => {
+            let value = random.pick(&[0, 5000, u32::MAX]);
+            put4(&mut a.fixed, 4 * random.below(5) as usize, value);
+            true
+        }
+        Clause::Lengths => {
+            let area = &mut a.each_mut()[random.between(1, 6) as usize];
+            let length = area.len();
+            area.set_length(random.pick(&[0, length - 1, length + 1]));
+            true
+        }
+        _ => {
+            let wounds: Vec<_> = WOUNDS.iter().filter(|wound| wound.clause == clause).collect();
+            let first = random.below(wounds.len() as u32) as usize;
+            (0..wounds.len()).any(|i| (wounds[(first + i) % wounds.len()].strike)(a, random))
+        }
+    }
 }
 
 /// Two to four wounds on one store.

@@ -25,7 +25,7 @@ mod wrong;
 
 use calls::Store;
 use coverage::Coverage;
-use machine::Judges;
+use machine::{Judges, Step};
 use progress::Progress;
 use session::Profile;
 use sound::Clause;
@@ -43,6 +43,12 @@ const LINKED: bool = cfg!(archive);
 
 /// Calls in a gate run.
 const CALLS: u64 = 1_000_000;
+
+/// How long a failing session is cut down.
+const PATIENCE: Duration = Duration::from_secs(60);
+
+/// Steps that the session of a small fault in the data may have once it is cut down.
+const SHORT: usize = 30;
 
 /// Calls in the sessions between fences, on each side.
 #[cfg(archive)]
@@ -132,6 +138,26 @@ fn sum(parts: &[(u64, u64)]) -> (u64, u64) {
     parts.iter().fold((0, 0), |sum, part| (sum.0 + part.0, sum.1 + part.1))
 }
 
+/// How many of a list have passed.
+#[derive(Default)]
+struct Tally {
+    passed: u64,
+    failed: u64,
+}
+
+impl Tally {
+    /// Counts one, and gives the word to print for it.
+    fn mark(&mut self, ok: bool) -> &'static str {
+        self.passed += u64::from(ok);
+        self.failed += u64::from(!ok);
+        if ok {
+            "ok    "
+        } else {
+            "FAILED"
+        }
+    }
+}
+
 fn cases() -> (u64, u64) {
     println!("\ncases");
     let (passed, failed) = cases::run(&Tested {});
@@ -159,7 +185,7 @@ fn sessions<S: Store + Clone>(store: &S, calls: u64, seed: u64, coverage: &mut C
             );
             println!("  cutting it down");
             let judges = Judges { wild: Profile::of(this).wild, ..judges };
-            let steps = machine::shrink(store, judges, steps, Duration::from_secs(60));
+            let steps = machine::shrink(store, judges, steps, PATIENCE);
             println!("  its shortest form, {} steps:", steps.len());
             machine::print_failing(store, judges, &steps);
             println!("  next: write these calls down as a case, mend, then run `sessions 1 {this}` and the gate again");
@@ -212,19 +238,14 @@ fn pairs(calls: u64, seed: u64) -> (u64, u64) {
         progress.seconds()
     );
     println!("  wrong stores beside the second program, after how many transaction calls they are caught:");
-    let (mut passed, mut failed) = (sum.pairs, 0);
+    let mut tally = Tally { passed: sum.pairs, failed: 0 };
     for (fault, said) in Fault::ALL.iter().filter(|(fault, _)| pair::MUST_CATCH.contains(fault)) {
         let caught = pair::caught(*fault, seed, 100_000);
         let after = caught.map_or("-".to_string(), |calls| calls.to_string());
-        println!("  {}{after:>8}  {}", if caught.is_some() { "ok    " } else { "FAILED" }, said.trim());
-        if caught.is_some() {
-            passed += 1
-        } else {
-            failed += 1
-        }
+        println!("  {}{after:>8}  {}", tally.mark(caught.is_some()), said.trim());
         progress.tell(|| said.trim().to_string());
     }
-    (passed, failed)
+    (tally.passed, tally.failed)
 }
 
 fn damage<S: Store + Clone>(store: &S, seed: u64, percent: u64, coverage: &mut Coverage) -> (u64, u64) {
@@ -274,51 +295,58 @@ fn wrong(seed: u64) -> (u64, u64) {
         Fault::CompactTakesFrameBytes,
     ];
     println!(
-        "\nwrong stores, seed {seed}: after how many calls each is caught, by the second program and by the history"
+        "\nwrong stores, seed {seed}: after how many calls each is caught, by the second program and by the history;"
     );
+    println!("how many steps its failing session has when it is cut down");
     let mut progress = Progress::new("wrong stores");
-    let (mut passed, mut failed) = (0, 0);
+    let mut tally = Tally::default();
+    let mut shown = None;
     for (i, (fault, said)) in Fault::ALL.iter().enumerate() {
         let by_twin = caught(*fault, Judges { twin: true, history: false, wild: false }, seed, 400_000);
         let by_history = caught(*fault, Judges { twin: false, history: true, wild: false }, seed, 40_000);
-        let needed = BY_HISTORY.contains(fault);
-        let ok = by_twin.is_some() && (by_history.is_some() || !needed);
-        let after = |calls: Option<u64>| calls.map_or("-".to_string(), |calls| calls.to_string());
-        println!(
-            "  {}{:>8}{:>8}  {}",
-            if ok { "ok    " } else { "FAILED" },
-            after(by_twin),
-            after(by_history),
-            said.trim()
-        );
-        if ok {
-            passed += 1
-        } else {
-            failed += 1
-        }
+        let after =
+            |caught: &Option<Caught>| caught.as_ref().map_or("-".to_string(), |caught| caught.after.to_string());
+        let (twin_after, history_after) = (after(&by_twin), after(&by_history));
+        let short = by_twin.map(|caught| {
+            let steps = machine::shrink(&Wrong::new(*fault), caught.judges, caught.steps, PATIENCE);
+            Caught { steps, ..caught }
+        });
+        let steps = short.as_ref().map_or(0, |short| short.steps.len());
+        // Where a table must be filled first, the shortest form has as many steps as that takes.
+        let known = BY_HISTORY.contains(fault);
+        let ok = short.is_some() && (!known || by_history.is_some() && steps <= SHORT);
+        println!("  {}{twin_after:>8}{history_after:>8}{steps:>5}  {}", tally.mark(ok), said.trim());
+        // One of them in full, as a failing run would print it.
+        shown = shown.or(short.map(|short| (*fault, said.trim(), short)));
         progress.tell(|| format!("{} of {}", i + 1, Fault::ALL.len()));
     }
-    println!("  clauses left unchecked, caught by damage:");
-    for (clause, label) in Clause::ALL {
-        let ok = damage::catches(&Wrong::new(Fault::Unchecked(clause)), clause, seed);
-        println!("  {}  {label}", if ok { "ok    " } else { "FAILED" });
-        if ok {
-            passed += 1
-        } else {
-            failed += 1
-        }
-        progress.tell(|| label.to_string());
+    if let Some((fault, said, short)) = shown {
+        println!("  the shortest form of the first, '{said}':");
+        machine::print_failing(&Wrong::new(fault), short.judges, &short.steps);
     }
-    if failed > 0 {
+    println!("  clauses left unchecked, caught by damage:");
+    for (clause, name) in Clause::ALL {
+        let ok = damage::catches(&Wrong::new(Fault::Unchecked(clause)), clause, seed);
+        println!("  {}  {name}", tally.mark(ok));
+        progress.tell(|| name.to_string());
+    }
+    if tally.failed > 0 {
         println!(
             "  next: a wrong store that is not caught means that the sessions or the wounds are too gentle: mend those"
         );
     }
-    (passed, failed)
+    (tally.passed, tally.failed)
 }
 
-/// After how many calls the sessions catch the fault, if they do.
-fn caught(fault: Fault, judges: Judges, seed: u64, most: u64) -> Option<u64> {
+/// A wrong store that was caught: after how many calls, by whom, and the steps of the session that did it.
+struct Caught {
+    after: u64,
+    judges: Judges,
+    steps: Vec<Step>,
+}
+
+/// Runs sessions on a store with the fault until one fails, if one does.
+fn caught(fault: Fault, judges: Judges, seed: u64, most: u64) -> Option<Caught> {
     let mut coverage = Coverage::off();
     let (mut made, mut seed) = (0, seed);
     while made < most {
@@ -326,8 +354,9 @@ fn caught(fault: Fault, judges: Judges, seed: u64, most: u64) -> Option<u64> {
         if Profile::of(seed).stored_bytes() <= 1 << 20 {
             let ran = session::run(&Wrong::new(fault), judges, seed, u64::MAX, &mut coverage);
             made += ran.calls;
-            if ran.failure.is_some() {
-                return Some(made);
+            if let Some((steps, _)) = ran.failure {
+                let judges = Judges { wild: Profile::of(seed).wild, ..judges };
+                return Some(Caught { after: made, judges, steps });
             }
         }
         seed = seed.wrapping_add(1);

@@ -77,6 +77,9 @@ impl Clauses {
     pub fn none(self) -> bool {
         self.0 == 0
     }
+    pub fn has(self, clause: Clause) -> bool {
+        self.0 >> clause as u32 & 1 == 1
+    }
     fn add(&mut self, clause: Clause) {
         self.0 |= 1 << clause as u32;
     }
@@ -88,8 +91,7 @@ impl Clauses {
 
 impl std::fmt::Display for Clauses {
     fn fmt(&self, f: &mut std::fmt::Formatter) -> std::fmt::Result {
-        let labels: Vec<_> =
-            Clause::ALL.iter().filter(|(c, _)| self.0 >> *c as u32 & 1 == 1).map(|(c, _)| c.label()).collect();
+        let labels: Vec<_> = Clause::ALL.iter().filter(|(c, _)| self.has(*c)).map(|(c, _)| c.label()).collect();
         write!(f, "{}", if labels.is_empty() { "none".to_string() } else { labels.join(" ") })
     }
 }
