@@ -9,6 +9,7 @@ use crate::areas::{Areas, Reply, Sizes, AREA_NAMES};
 use crate::calls::{Call, Store};
 use crate::coverage::{Coverage, Glance, Moment, Origin};
 use crate::history::History;
+use crate::progress::Progress;
 use crate::random::Random;
 use crate::sound;
 use crate::states;
@@ -297,6 +298,7 @@ pub fn replay<S: Store + Clone>(store: &S, judges: Judges, steps: &[Step]) -> Op
 /// Drops steps, many at a time and then one by one, as long as `failing` still names a step that fails.
 pub fn cut_down<T: Clone>(mut steps: Vec<T>, patience: Duration, failing: impl Fn(&[T]) -> Option<usize>) -> Vec<T> {
     let started = Instant::now();
+    let mut progress = Progress::new("cutting down");
     let mut chunk = steps.len().max(1);
     loop {
         let before = steps.len();
@@ -311,6 +313,7 @@ pub fn cut_down<T: Clone>(mut steps: Vec<T>, patience: Duration, failing: impl F
                 }
                 None => at += chunk,
             }
+            progress.tell(|| format!("{} steps left", steps.len()));
         }
         if started.elapsed() >= patience || (chunk == 1 && steps.len() == before) {
             return steps;

@@ -156,6 +156,14 @@ impl Tally {
             "FAILED"
         }
     }
+
+    /// Gives both numbers. If some were missed, says what to do next.
+    fn end(self) -> (u64, u64) {
+        if self.failed > 0 {
+            println!("  next: a wrong store that is not caught means that the run above is too gentle: mend that");
+        }
+        (self.passed, self.failed)
+    }
 }
 
 fn cases() -> (u64, u64) {
@@ -245,7 +253,7 @@ fn pairs(calls: u64, seed: u64) -> (u64, u64) {
         println!("  {}{after:>8}  {}", tally.mark(caught.is_some()), said.trim());
         progress.tell(|| said.trim().to_string());
     }
-    (tally.passed, tally.failed)
+    tally.end()
 }
 
 fn damage<S: Store + Clone>(store: &S, seed: u64, percent: u64, coverage: &mut Coverage) -> (u64, u64) {
@@ -256,12 +264,13 @@ fn damage<S: Store + Clone>(store: &S, seed: u64, percent: u64, coverage: &mut C
 /// Damage and sessions on slices that end at a fence, then on slices that begin at one. First what the fences catch.
 fn fences(percent: u64, seed: u64) -> (u64, u64) {
     println!("\nfences: what they must catch, each in a process of its own");
-    let (caught, missed) = fence::catch_strays().unwrap_or_else(|why| (0, vec![format!("no process: {why}")]));
+    let (passed, missed) = fence::catch_strays().unwrap_or_else(|why| (0, vec![format!("no process: {why}")]));
     println!(
-        "  {caught} strays caught: a byte read or written beside a slice, or written where it is lent for reading"
+        "  {passed} strays caught: a byte read or written beside a slice, or written where it is lent for reading"
     );
     missed.iter().for_each(|what| println!("  FAILED  not caught: {what}"));
-    sum(&[(caught, missed.len() as u64), fenced(percent, seed)])
+    let strays = Tally { passed, failed: missed.len() as u64 };
+    sum(&[strays.end(), fenced(percent, seed)])
 }
 
 #[cfg(archive)]
@@ -330,12 +339,7 @@ fn wrong(seed: u64) -> (u64, u64) {
         println!("  {}  {name}", tally.mark(ok));
         progress.tell(|| name.to_string());
     }
-    if tally.failed > 0 {
-        println!(
-            "  next: a wrong store that is not caught means that the sessions or the wounds are too gentle: mend those"
-        );
-    }
-    (tally.passed, tally.failed)
+    tally.end()
 }
 
 /// A wrong store that was caught: after how many calls, by whom, and the steps of the session that did it.

@@ -433,8 +433,14 @@ int main(int count, char **words)
     state = seed * UINT64_C(0x9e3779b97f4a7c15) | 1;
     signal(SIGPIPE, SIG_IGN);
     printf("seed %" PRIu64 " (the moments of SIGKILL differ from run to run)\n", seed);
-    for (unsigned long i = 0; i < rounds; i++)
+    long began = milliseconds(), told = began;
+    for (unsigned long i = 0; i < rounds; i++) {
         passed += round_holds(i);
+        if (milliseconds() - told >= 3000) {
+            told = milliseconds();
+            fprintf(stderr, "  ... kill test: %lu of %lu rounds, %ld s\n", i + 1, rounds, (told - began) / 1000);
+        }
+    }
     printf("%lu commits reported done; %lu deaths with a commit in flight, of which %lu were kept; %lu left a journal\n",
         commits, flights, flights_kept, journals);
     printf("%lu passed, %lu failed\n", passed, rounds - passed);
