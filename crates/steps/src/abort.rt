@@ -134,14 +134,7 @@ fn judge_row(
 }
 
 // The entries of the pages of the owner's rows judged anew by the marks.
-fn judge_marked(
-    tables: &mut [u8],
-    online: &[u8],
-    frames: usize,
-    m: usize,
-    owner: u8,
-    marks: &[u8],
-)
+fn judge_marked(tables: &mut [u8], online: &[u8], frames: usize, m: usize, owner: u8, marks: &[u8])
     requires { ⌜ (m * 19 ≤ length (now online)) × (frames ≤ 64) × (length (now tables) ≤ 35 + frames + 1024) × (now marks ≡ markPages (keep (stays true owner 0) (rows 19 m (now online) 0)) (replicate 1024 0)) ⌝ }
     ensures { λ r. ⌜ now (tables .exit) ≡ judgedAnew frames (keep (stays true owner 0) (rows 19 m (now (online .entry)) 0)) (keep (ownedBy owner) (rows 19 m (now (online .entry)) 0)) (now (tables .entry)) ⌝ }
 {
