@@ -1,4 +1,5 @@
 -- The theorem, a part a file.
 pub mod Stands
-pub mod Theorem
+pub mod Shows
+pub mod Twins
 pub mod Doors

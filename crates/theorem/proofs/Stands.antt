@@ -1,22 +1,20 @@
 -- Every run stands: after each call and each loss the history and the bytes are right, or await a restart.
 use Prim.Native.Nat.{ℕ, _+_, _*_, _≤_, _<_}
-use native.Mathlib.Omega.{arith}
-use mathlib.Core.Path.{_≡_, refl, sym, ap, _∙_, subst}
-use mathlib.Core.Bool.{Bool, true, false, cond, _&&_}
+use mathlib.Core.Path.{_≡_, refl, sym, ap, _∙_}
+use mathlib.Core.Bool.{Bool, true, false, _&&_}
 use mathlib.Core.List.{List, [], _++_, map}
 use lib.ListN.{length}
 use lib.Dec.{leb}
-use borrow.Author.Tests.{leb-true, leb-false}
+use borrow.Author.Tests.{leb-true}
 use Rattle.word.specs.Word.{num}
 use Rattle.record.specs.Record.{bodyOf, rowOf}
-use Rattle.rules.specs.declared.Answer.{Answer}
-use Rattle.rules.specs.declared.Answer.the-variants.{Done, NotDue, Refused}
+use Rattle.rules.specs.declared.Answer.the-variants.{Done, Refused}
 use Rattle.rules.specs.declared.Refusal.{Refusal}
 use Rattle.rules.specs.declared.Verdict.{Verdict}
 use Rattle.rules.specs.declared.Verdict.the-variants.{Go, Refuse}
 use Rattle.rules.specs.Lent.{Lent, Lost, pagesOf}
 use Rattle.rules.specs.Sound.{between}
-use Rattle.rules.specs.Steps.{Left, begun, readStep, readBytes, updated, owned, committing, aborted, evicted, due, compacted, closed, afterPages, checkpointed, restarted, formatted}
+use Rattle.rules.specs.Steps.{begun, readStep, readBytes, updated, owned, committing, aborted, evicted, due, compacted, closed, checkpointed, restarted, formatted}
 use Rattle.rules.specs.Calls.{Outcome, settled, doneWith, dueOr, judgeBegin, beginCall, judgeRead, readCall, judgeUpdate, updateCall, judgeCommit, commitCall, judgeAbort, abortCall, judgeEvict, evictCall, judgeCompact, compactCall, judgeClose, closeCall, judgeCheckpoint, checkpointCall, judgeRestart, restartCall, judgeFormat, formatCall}
 use Rattle.ventarico.proofs.Went.{begin-went, abort-went, evict-went, commit-went, read-went, update-went, update-whose, compact-went}
 use Rattle.history.specs.Past.{Past, fresh, begins, updates, commits, aborts, falls, rises}
