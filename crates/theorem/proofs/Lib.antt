@@ -2,4 +2,6 @@
 pub mod Stands
 pub mod Shows
 pub mod Twins
+pub mod Reissue
 pub mod Doors
+pub mod Days
