@@ -16,7 +16,6 @@ pub mod Commits
 pub mod Begins
 pub mod Fetches
 pub mod Formats
-pub mod Twins
 pub mod Folding
 pub mod Restamped
 pub mod Compacts

@@ -7,9 +7,7 @@ use lib.ListN.{length, drop}
 use lib.Dec.{eqb}
 use Rattle.record.specs.Part.{part}
 use Rattle.record.specs.Record.{rowOf}
-use Rattle.rules.specs.declared.Answer.{Answer}
-use Rattle.rules.specs.declared.Answer.the-variants.{Done, NotDue, Refused}
-use Rattle.rules.specs.declared.Counts.{Counts}
+use Rattle.rules.specs.declared.Answer.the-variants.{Refused}
 use Rattle.rules.specs.declared.Refusal.{Refusal}
 use Rattle.rules.specs.declared.Refusal.the-variants.{NotSound, Argument, ShortBuffer, NotLive, Live, Held, OnlineFull, LogFull, NumbersEnd, NoFrame}
 use Rattle.rules.specs.declared.Reply.{Reply}
@@ -22,7 +20,7 @@ use Rattle.rules.specs.Calls.{Outcome, settled, doneWith, dueOr, judgeBegin, be
 use Rattle.ventarico.specs.Said.{Told}
 use Rattle.history.specs.Past.{Past, shown}
 use Rattle.history.specs.Run.{Call, Begin, Commit, Abort, Evict, Read, Update, Compact, Checkpoint, Close, Restart, outcome, taken, told, Run, call}
-use Rattle.theorem.proofs.Theorem.{read-shows}
+use Rattle.theorem.proofs.Shows.{read-shows}
 
 -- the history as C hears it: code 0 is done
 unfoldable pub heard : Past → Call → Reply → Past

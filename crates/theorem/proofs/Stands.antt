@@ -1,12 +1,11 @@
 -- Every run stands: after each call and each loss the history and the bytes are right, or await a restart.
 use Prim.Native.Nat.{ℕ, _+_, _*_, _≤_, _<_}
-use native.Mathlib.Omega.{arith}
-use mathlib.Core.Path.{_≡_, refl, sym, ap, _∙_, subst}
-use mathlib.Core.Bool.{Bool, true, false, cond, _&&_}
+use mathlib.Core.Path.{_≡_, refl, sym, ap, _∙_}
+use mathlib.Core.Bool.{Bool, true, false, _&&_}
 use mathlib.Core.List.{List, [], _++_, map}
 use lib.ListN.{length}
 use lib.Dec.{leb}
-use borrow.Author.Tests.{leb-true, leb-false}
+use borrow.Author.Tests.{leb-true}
 use Rattle.word.specs.Word.{num}
 use Rattle.record.specs.Record.{bodyOf, rowOf}
 use Rattle.rules.specs.declared.Answer.{Answer}
@@ -16,7 +15,7 @@ use Rattle.rules.specs.declared.Verdict.{Verdict}
 use Rattle.rules.specs.declared.Verdict.the-variants.{Go, Refuse}
 use Rattle.rules.specs.Lent.{Lent, Lost, pagesOf}
 use Rattle.rules.specs.Sound.{between}
-use Rattle.rules.specs.Steps.{Left, begun, readStep, readBytes, updated, owned, committing, aborted, evicted, due, compacted, closed, afterPages, checkpointed, restarted, formatted}
+use Rattle.rules.specs.Steps.{begun, readStep, readBytes, updated, owned, committing, aborted, evicted, due, compacted, closed, checkpointed, restarted, formatted}
 use Rattle.rules.specs.Calls.{Outcome, settled, doneWith, dueOr, judgeBegin, beginCall, judgeRead, readCall, judgeUpdate, updateCall, judgeCommit, commitCall, judgeAbort, abortCall, judgeEvict, evictCall, judgeCompact, compactCall, judgeClose, closeCall, judgeCheckpoint, checkpointCall, judgeRestart, restartCall, judgeFormat, formatCall}
 use Rattle.ventarico.proofs.Went.{begin-went, abort-went, evict-went, commit-went, read-went, update-went, update-whose, compact-went}
 use Rattle.history.specs.Past.{Past, fresh, begins, updates, commits, aborts, falls, rises}
@@ -34,13 +33,29 @@ use Rattle.history.proofs.Restarts.{keeps-restart, keeps-loss, keeps-loss-down,
 use Rattle.history.proofs.Formats.{format-right}
 
 -- a number of a transaction is within its range
-within : (x : ℕ) → between 1 x 32 ≡ true → (1 ≤ x) × (x ≤ 32)
+pub within : (x : ℕ) → between 1 x 32 ≡ true → (1 ≤ x) × (x ≤ 32)
 within x e = go (leb 1 x) (leb x 32) refl refl e
   where
     go : (a b : Bool) → leb 1 x ≡ a → leb x 32 ≡ b → (a && b) ≡ true → (1 ≤ x) × (x ≤ 32)
     go true true f k z = (leb-true 1 x f, leb-true x 32 k)
     go true false f k z = absurd (mathlib.Core.Bool.false≢true z)
     go false b f k z = absurd (mathlib.Core.Bool.false≢true z)
+
+-- no call, accepted or refused, leaves a store that is up awaiting a restart
+pub told-up : (h : Past) (c : Call) (a : Answer) → h .down ≡ false → told h c a .down ≡ false
+unfolding told taken begins updates commits aborts rises
+told-up h (Begin x) (Done counts) n = n
+told-up h (Commit x) (Done counts) n = n
+told-up h (Abort x) (Done counts) n = n
+told-up h (Evict p) (Done counts) n = n
+told-up h (Read buffer x p offset w) (Done counts) n = n
+told-up h (Update x p offset w kind v) (Done counts) n = n
+told-up h (Compact p minDel maxAge) (Done counts) n = n
+told-up h (Checkpoint minDel maxAge) (Done counts) n = n
+told-up h Close (Done counts) n = n
+told-up h Restart (Done counts) n = refl
+told-up h c NotDue n = n
+told-up h c (Refused r) n = n
 
 -- the bytes and the history of a store: right while it is up, and fit for a restart while it is down
 pub data Stands (h : Past) (s : Lent) : Type 0 where
@@ -200,4 +215,3 @@ run-stands (loss-inside {h} {s} r n minDel maxAge j e m l f) = go (run-stands r)
     go : Stands h s → Stands (falls h) (afterLoss (afterSteps minDel maxAge j s) l)
     go (up g done k q) = down g done refl (keeps-loss l (fits-same q (keeps-steps minDel maxAge j q) (fixed-steps minDel maxAge j s) l f) (keeps-steps minDel maxAge j q))
     go (down g done k d) = absurd (mathlib.Core.Bool.false≢true (sym n ∙ k))
-

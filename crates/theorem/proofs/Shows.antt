@@ -1,24 +1,26 @@
--- Demand 3, sentence by sentence: what every run of a store shows.
-use Prim.Native.Nat.{ℕ, _+_, _*_, _≤_, _<_}
+-- Demand 3 of one store, over every run. Four public statements say it:
+-- `read-shows`: "after any calls and power losses, an accepted read shows the starting page with all committed updates, and the reader's own, applied in the order made".
+-- `stored-shows`: "Each stored page is the starting page with just those committed updates numbered up to its stamp", at every moment.
+-- `restart-accepted`: "An accepted restart follows each loss", and one without a loss is accepted too. `always-sound`: soundness holds after every call.
+use Prim.Native.Nat.{ℕ, _+_, _≤_, _<_}
 use native.Mathlib.Omega.{arith}
 use mathlib.Core.Path.{_≡_, refl, sym, ap, _∙_, subst}
 use mathlib.Core.Bool.{Bool, true, false, not, _&&_, _||_}
 use mathlib.Core.List.{List, [], _++_}
 use lib.ListN.{length, drop}
-use lib.Dec.{leb, ltb}
-use borrow.Author.Tests.{le-leb, lt-ltb, ltb-false}
+use lib.Dec.{leb}
+use borrow.Author.Tests.{le-ltb}
 use Rattle.word.specs.Word.{num}
 use Rattle.record.specs.Part.{part}
 use Rattle.record.specs.Rows.{keep}
 use Rattle.record.specs.Record.{numberOf, committed, applied, onPage, committedOn, ownedBy}
 use Rattle.apply.proofs.Laws.{length-applied}
-use Rattle.rules.specs.declared.Answer.{Answer}
-use Rattle.rules.specs.declared.Answer.the-variants.{Done, NotDue, Refused}
+use Rattle.rules.specs.declared.Answer.the-variants.{Done}
 use Rattle.rules.specs.declared.Counts.{Counts}
 use Rattle.rules.specs.declared.Verdict.{Verdict}
 use Rattle.rules.specs.declared.Verdict.the-variants.{Go, Refuse}
 use Rattle.rules.specs.Lent.{Lent, Durable, sizeOf, pagesOf, roomOf, stampAt, stampOf, onlineOf, pageIn}
-use Rattle.rules.specs.Sound.{every, pairs, sound, soundDurable}
+use Rattle.rules.specs.Sound.{every, pairs, sound}
 use Rattle.rules.specs.Steps.{placeOf, fetchedPool, readStep, readBytes, enteringAll, restarted}
 use Rattle.rules.specs.Calls.{refuseIf, settled, doneWith, judgeRead, readCall, judgeRestart, restartCall}
 use Rattle.ventarico.proofs.Went.{read-went, read-whose}
@@ -31,7 +33,7 @@ use Rattle.history.specs.Past.{Past, startPage, shown, storedUpTo}
 use Rattle.history.specs.Run.{Run}
 use Rattle.history.proofs.Right.{Ground, PastRight, DurableRight, Right, Down, rowsOf, openOf, uncommitted, aboveStamp}
 use Rattle.history.proofs.Tested.{every-all}
-use Rattle.history.proofs.Soundly.{durable-sound, right-sound, right-areas}
+use Rattle.history.proofs.Soundly.{durable-sound, right-sound}
 use Rattle.history.proofs.Fetches.{fetched-page}
 use Rattle.history.proofs.Restarts.{restart-fits, falls-down}
 use Rattle.theorem.proofs.Stands.{Stands, up, down, run-stands}
@@ -49,36 +51,22 @@ run-right {h} {s} r n = go (run-stands r)
     go (up g done m q) = record { ground = g; done = done; right = q }
     go (down g done m d) = absurd (mathlib.Core.Bool.false≢true (sym n ∙ m))
 
--- soundness holds after every call from a format: refusal 1 never comes up
+-- soundness holds after every call, from a format on: refusal 1 never comes up
 pub always-sound : {h : Past} {s : Lent} → Run h s → h .down ≡ false → sound s ≡ true
 always-sound {h} {s} r n = let q = run-right r n in right-sound (q .ground) (q .done) h s (q .right)
 
--- a restart is accepted, at any time
-module _ {g : Ground} {done : List (List ℕ)} {h : Past} {s : Lent} where
-  goes : Down g done h s → judgeRestart s ≡ Go
-  unfolding judgeRestart refuseIf
-  goes d =
-      let a : soundDurable s ≡ true = durable-sound g done s (d .durable) (d .past .formed) (d .areas) in
-      let b : ltb (roomOf s) (length (enteringAll s)) ≡ false = not-less (roomOf s) (length (enteringAll s)) (restart-fits d) in
-      rw (a, b) refl
-    where
-      not-less : (n k : ℕ) → k ≤ n → ltb n k ≡ false
-      not-less n k e = go (ltb n k) refl
-        where
-          go : (b : Bool) → ltb n k ≡ b → ltb n k ≡ false
-          go true f = absurd (omega (arith, borrow.Author.Tests.ltb-true n k f))
-          go false f = f
-
-accepted : (s : Lent) → judgeRestart s ≡ Go → restartCall s .answer ≡ Done (record { reads = 0; writes = 0; logs = 0 })
-unfolding restartCall restarted
-accepted s e = ap (λ (v : Verdict). settled v s [] (doneWith (restarted s) []) .answer) e
+-- a restart is accepted at any time: what is durable is sound, and the online table has room for what enters
+goes : {g : Ground} {done : List (List ℕ)} {h : Past} {s : Lent} → Down g done h s → judgeRestart s ≡ Go
+unfolding judgeRestart refuseIf
+goes {g} {done} {h} {s} d = rw (durable-sound g done s (d .durable) (d .past .formed) (d .areas), le-ltb (roomOf s) (length (enteringAll s)) (restart-fits d)) refl
 
 pub restart-accepted : {h : Past} {s : Lent} → Run h s → restartCall s .answer ≡ Done (record { reads = 0; writes = 0; logs = 0 })
-restart-accepted {h} {s} r = go (run-stands r)
+unfolding restartCall restarted
+restart-accepted {h} {s} r = ap (λ (v : Verdict). settled v s [] (doneWith (restarted s) []) .answer) (go (run-stands r))
   where
-    go : Stands h s → restartCall s .answer ≡ Done (record { reads = 0; writes = 0; logs = 0 })
-    go (up g done m q) = accepted s (goes (falls-down q))
-    go (down g done m d) = accepted s (goes d)
+    go : Stands h s → judgeRestart s ≡ Go
+    go (up g done m q) = goes (falls-down q)
+    go (down g done m d) = goes d
 
 -- what reads and stored pages need of the two parts
 module _ {g : Ground} {done : List (List ℕ)} {h : Past} (a : PastRight g done h) where
@@ -101,7 +89,7 @@ start-length {g} {done} {u} d p m =
     ∙ ap (λ (l : List ℕ). length l) (sym (d .page p m))
     ∙ page-length (g .size) (g .pages) (u .stored) (d .stored) p m
 
--- "Each stored page is the starting page with just those committed updates numbered up to its stamp"
+-- a stored page, from what is right of the history and of the durable part
 stored-page : {g : Ground} {done : List (List ℕ)} {h : Past} {u : Durable} → PastRight g done h → DurableRight g done u → (p : ℕ) → p < h .pages → pageIn (h .size) p (u .stored) ≡ storedUpTo h (num 4 (u .marks) (stampAt p)) p
 unfolding storedUpTo
 stored-page {g} {done} {h} {u} a d p m =
@@ -113,6 +101,7 @@ stored-page {g} {done} {h} {u} a d p m =
     mine : List (List ℕ)
     mine = keep (λ (r : List ℕ). committedOn p r && leb (numberOf r) (num 4 (u .marks) (stampAt p))) (h .made)
 
+-- "Each stored page is the starting page with just those committed updates numbered up to its stamp"
 pub stored-shows : {h : Past} {s : Lent} → Run h s → (p : ℕ) → p < h .pages → pageIn (h .size) p (s .durable .stored) ≡ storedUpTo h (stampOf s p) p
 stored-shows {h} {s} r p m = go (run-stands r)
   where
@@ -120,7 +109,7 @@ stored-shows {h} {s} r p m = go (run-stands r)
     go (up g done n q) = stored-page (q .past) (q .durable) p m
     go (down g done n d) = stored-page (d .past) (d .durable) p m
 
--- "an accepted read shows the starting page with all committed updates, and the reader's own, applied in the order made"
+-- what a read that is accepted copies, from what is right
 module _ {g : Ground} {done : List (List ℕ)} {h : Past} {s : Lent} (q : Right g done h s) (buffer : List ℕ) (x p offset w : ℕ) (e : judgeRead s (length buffer) x p offset w ≡ Go) where
   asked : p < pagesOf s
   asked = read-went s (length buffer) x p offset w e .1
@@ -140,10 +129,11 @@ module _ {g : Ground} {done : List (List ℕ)} {h : Past} {s : Lent} (q : Right 
       room : offset + w ≤ length (pageIn (g .size) p (g .start))
       room = omega (arith, start-length (q .durable) p below, q .durable .size, read-went s (length buffer) x p offset w e .2)
 
-  read-right : readBytes s p offset w buffer ≡ part offset w (shown h x p) ++ drop w buffer
+  pub read-right : readBytes s p offset w buffer ≡ part offset w (shown h x p) ++ drop w buffer
   unfolding readBytes
   read-right = ap (λ (l : List ℕ). l ++ drop w buffer) page-bytes
 
+-- "an accepted read shows the starting page with all committed updates, and the reader's own, applied in the order made"
 pub read-shows : {h : Past} {s : Lent} → Run h s → h .down ≡ false → (buffer : List ℕ) (x p offset w : ℕ) (c : Counts) → readCall s buffer x p offset w .answer ≡ Done c → readCall s buffer x p offset w .buffer ≡ part offset w (shown h x p) ++ drop w buffer
 unfolding readCall
 read-shows {h} {s} r n buffer x p offset w c e = go (judgeRead s (length buffer) x p offset w) refl e
