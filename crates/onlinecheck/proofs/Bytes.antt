@@ -335,8 +335,8 @@ free-apart pages rs x h g e =
     e
     ∙ pages-are rs pages 0 (replicate 4096 0) (length-replicate {A = ℕ} 4096 0) (λ b. omega (arith, zeros-at 4096 b)) g
     ∙ same-test (upTo (λ (p : ℕ). pairs apart (keep (openOn p) rs)) pages 0) (pairs apart rs)
-        (λ f. pages-pairs pages rs h (λ p q. upTo-at (λ (p : ℕ). pairs apart (keep (openOn p) rs)) pages 0 p (omega arith) (omega arith) f))
-        (λ f. upTo-all (λ (p : ℕ). pairs apart (keep (openOn p) rs)) pages 0 (λ p q k. pairs-keep (openOn p) rs f))
+    (λ f. pages-pairs pages rs h (λ p q. upTo-at (λ (p : ℕ). pairs apart (keep (openOn p) rs)) pages 0 p (omega arith) (omega arith) f))
+    (λ f. upTo-all (λ (p : ℕ). pairs apart (keep (openOn p) rs)) pages 0 (λ p q k. pairs-keep (openOn p) rs f))
 
 -- S7 and S8 place each row
 length-some : (w : ℕ) → isLength w ≡ true → 1 ≤ w
@@ -385,8 +385,7 @@ take-none a e base mine was = record { free = refl; marked = refl; rest = λ b h
 pub take-fail : (a e base mine : ℕ) (was : List ℕ) (k : ℕ) (marks d : List ℕ) → k < e → (ltb base (getD marks k 0) && not (eqb (getD marks k 0) mine)) ≡ true → Taking a e base mine was k marks → (false ≡ upTo (freeByte base mine was) (e - a) a) × (false ≡ true → marks ≡ d)
 unfolding freeByte
 take-fail a e base mine was k marks d h g t =
-    let f : freeByte base mine was k ≡ false = rw (t .rest k (omega arith)) at (ap not g) in
-    (
+    let f : freeByte base mine was k ≡ false = rw (t .rest k (omega arith)) at (ap not g) in (
       upTo-fail (freeByte base mine was) e k (freeByte base mine was k) (upTo (freeByte base mine was) (e - a) a) h (ap not f) refl (t .free),
       λ z. let y : _≡_ {A = ℕ} 0 1 = cc in absurd (omega arith),
     )

@@ -41,13 +41,13 @@ chain-turn t heads after m j p q k false true h a b e c =
 pub link-start : (t : List ℕ) (m : ℕ) → m ≤ 512 → Linked t m m (replicate 1024 512) (replicate 512 512)
 unfolding rows keep
 link-start t m h = record {
-      wide = length-replicate {A = ℕ} 1024 512;
-      long = length-replicate {A = ℕ} 512 512;
-      chains = λ p q.
-        let e : getD {A = ℕ} (replicate 1024 512) p 0 ≡ 512 = getD-replicate {A = ℕ} 1024 p 512 0 q in
-        let n : m - m ≡ 0 = omega arith in
-        rw (e, n) (ends h);
-    }
+  wide = length-replicate {A = ℕ} 1024 512;
+  long = length-replicate {A = ℕ} 512 512;
+  chains = λ p q.
+      let e : getD {A = ℕ} (replicate 1024 512) p 0 ≡ 512 = getD-replicate {A = ℕ} 1024 p 512 0 q in
+      let n : m - m ≡ 0 = omega arith in
+      rw (e, n) (ends h);
+}
 
 cond-length : (x : Bool) (a : List ℕ) (k v : ℕ) → length (cond x a (set a k v)) ≡ length a
 cond-length true a k v = refl
@@ -60,11 +60,11 @@ link-turn t m i j heads after b d e h g q eb ed l =
       wide = ap length eb ∙ cond-length (committed r) heads (pageOf r) j ∙ l .wide;
       long = ap length ed ∙ cond-length (committed r) after j (getD heads (pageOf r) 0) ∙ l .long;
       chains = λ p k.
-        let n : m - j ≡ suc (m - (j + 1)) = omega arith in
-        let u : j < length after = rw (l .long) (omega arith) in
-        let v : pageOf r < length heads = rw (l .wide) q in
-        let c : Chain t m after (j + 1) (getD heads p 0) (keep (openOn p) (rows 19 (m - (j + 1)) t (j + 1))) = rw e at (l .chains p k) in
-        rw (eb, ed, n) (chain-turn t heads after m j p (pageOf r) (keep (openOn p) (rows 19 (m - (j + 1)) t (j + 1))) (committed r) (eqb (pageOf r) p) (omega arith) u v refl c);
+          let n : m - j ≡ suc (m - (j + 1)) = omega arith in
+          let u : j < length after = rw (l .long) (omega arith) in
+          let v : pageOf r < length heads = rw (l .wide) q in
+          let c : Chain t m after (j + 1) (getD heads p 0) (keep (openOn p) (rows 19 (m - (j + 1)) t (j + 1))) = rw e at (l .chains p k) in
+          rw (eb, ed, n) (chain-turn t heads after m j p (pageOf r) (keep (openOn p) (rows 19 (m - (j + 1)) t (j + 1))) (committed r) (eqb (pageOf r) p) (omega arith) u v refl c);
     }
 
 -- what each way out of `link_row` leaves
