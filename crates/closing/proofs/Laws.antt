@@ -1,4 +1,4 @@
--- Laws of the smaller number, of rows that lower dirty numbers, of the smallest committed number, and of what is dropped.
+-- Laws of rows that lower dirty numbers, of the smallest committed number, and of what is dropped.
 use Prim.Native.Nat.{ℕ, zero, suc, _+_, _*_, _-_, _/_, _%_, _≤_, _<_, min}
 use native.Mathlib.Omega.{arith}
 use native.Mathlib.Nat.{min-eq-left, min-eq-right}
@@ -18,19 +18,6 @@ use Rattle.table.proofs.Laws.{rows-more, rows-end, rows-start, length-rows}
 use Rattle.table.proofs.Moves.{lent-back}
 use Rattle.rules.specs.Lent.{Lent, lentOf, dirtyAt}
 use Rattle.rules.specs.Steps.{lowered, droppedBy, closed}
-
--- `lesser_of`: none so far, the old one, the new one
-pub lesser-none : (a b : ℕ) → a ≡ 0 → b ≡ lesser a b
-unfolding lesser
-lesser-none a b h = rw (eq-eqb a 0 h)
-
-pub lesser-old : (a b : ℕ) → (a ≡ 0 → ⊥) → a ≤ b → a ≡ lesser a b
-unfolding lesser
-lesser-old a b h k = rw (ne-eqb a 0 h) (sym (min-eq-left k))
-
-pub lesser-new : (a b : ℕ) → (a ≡ 0 → ⊥) → b < a → b ≡ lesser a b
-unfolding lesser
-lesser-new a b h k = let k′ : b ≤ a = omega arith in rw (ne-eqb a 0 h) (sym (min-eq-right k′))
 
 -- bytes past the end are not there to write
 pub put-out : (w : ℕ) (l : List ℕ) (at v : ℕ) → length l ≤ at → put w l at v ≡ l

@@ -13,14 +13,15 @@ use Rattle.record.specs.Part.{part, withPart}
 use Rattle.record.specs.Rows.{rows, keep, table}
 use Rattle.record.specs.Record.{onPage, committedOn, applied, gone, smallest, greatest}
 use Rattle.record.proofs.Laws.{getD-part}
+use Rattle.record.proofs.Parts.{length-part}
 use Rattle.order.specs.Order.{without}
 use Rattle.rules.specs.Lent.{Lent, lentOf, sizeOf, pagesOf, framesOf, roomOf, stampAt, orderOf, entryAt, entryOf, entriesOf, onlineOf, inFrame, frameOf, pageIn, withPage, withOrder, withCount}
 use Rattle.rules.specs.Shape.{Shaped}
 use Rattle.rules.specs.Steps.{due, foldable, fromFrame, compactedPage, compactedEntry, compactedOrder, unfolded, compacted, compactStep}
+use Rattle.rules.proofs.Every.{every-at}
 use Rattle.compact.specs.declared.Plan.{Plan}
 use Rattle.compact.specs.declared.Sizes.{Sizes}
 use Rattle.compact.specs.Planned.{Measured, Planned}
-use Rattle.compact.proofs.Kept.{length-part, every-at}
 
 -- `is_due`
 pub due-read : (fixed marks log stored tables online pool : List ℕ) (p minDel maxAge m n least last a : ℕ) (r : Bool) → m ≡ num 2 tables 0

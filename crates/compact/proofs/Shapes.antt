@@ -9,18 +9,21 @@ use lib.Dec.{eqb, leb, ltb}
 use borrow.Author.Tests.{le-leb}
 use Rattle.word.specs.Word.{num}
 use Rattle.word.proofs.Laws.{length-put}
+use Rattle.word.proofs.Puts.{num-put-below}
 use Rattle.record.specs.Part.{part}
 use Rattle.record.specs.Rows.{keep}
 use Rattle.record.specs.Record.{onPage, gone, greatest, applied}
+use Rattle.record.proofs.Parts.{length-part, length-with, part-set}
 use Rattle.apply.proofs.Laws.{length-applied}
-use Rattle.table.proofs.Laws.{keep-length, length-rows}
+use Rattle.table.proofs.Laws.{keep-length, length-rows, length-kept-table}
 use Rattle.order.specs.Order.{without}
 use Rattle.order.proofs.Laws.{length-without}
 use Rattle.rules.specs.Lent.{Lent, sizeOf, pagesOf, framesOf, roomOf, lastOf, loggedOf, countOf, usedOf, stampAt, orderOf, entryAt, entryOf, entriesOf, onlineOf, inFrame, frameOf, cleanIn, pageIn, withPage, withOrder, withCount}
 use Rattle.rules.specs.Sound.{every}
 use Rattle.rules.specs.Shape.{Shaped}
 use Rattle.rules.specs.Steps.{due, foldable, fromFrame, compactedPage, compactedEntry, compactedOrder, unfolded, compacted, compactStep}
-use Rattle.compact.proofs.Kept.{num-put-below, length-part, length-with, part-set, tables-length, tables-count, tables-used, tables-order, tables-behind, every-set, every-without, length-kept-table}
+use Rattle.rules.proofs.Tables.{tables-length, tables-count, tables-used, tables-order, tables-behind}
+use Rattle.rules.proofs.Every.{every-set, every-without}
 use Rattle.compact.proofs.Laws.{one-fits, entry-below}
 
 -- what is fixed, L and n
@@ -120,21 +123,21 @@ module _ (s : Lent) (p : ℕ) (w : Shaped s) (h : p < pagesOf s) where
 
   written-count : num 2 written 0 ≡ length (unfolded s p)
   unfolding written
-  written-count = tables-count (framesOf s) (length (unfolded s p)) (compactedOrder s p) entered entered-room left-small
+  written-count = tables-count (framesOf s) (compactedOrder s p) entered entered-room (length (unfolded s p)) left-small
 
   written-used : getD written 2 0 ≡ length (compactedOrder s p)
   unfolding written
-  written-used = tables-used (framesOf s) (length (unfolded s p)) (compactedOrder s p) entered entered-room
+  written-used = tables-used (framesOf s) (compactedOrder s p) entered entered-room (length (unfolded s p))
 
   written-order : part 35 (getD written 2 0) written ≡ compactedOrder s p
   unfolding written
   written-order =
       ap (λ (n : ℕ). part 35 n written) written-used
-      ∙ tables-order (framesOf s) (length (unfolded s p)) (compactedOrder s p) entered entered-room (omega (arith, order-fewer, w .used))
+      ∙ tables-order (framesOf s) (compactedOrder s p) entered entered-room (length (unfolded s p)) (omega (arith, order-fewer, w .used))
 
   written-entries : part (35 + framesOf s) (pagesOf s) written ≡ part (35 + framesOf s) (pagesOf s) entered
   unfolding written
-  written-entries = ap (λ (l : List ℕ). take (pagesOf s) l) (tables-behind (framesOf s) (length (unfolded s p)) (compactedOrder s p) entered entered-room)
+  written-entries = ap (λ (l : List ℕ). take (pagesOf s) l) (tables-behind (framesOf s) (compactedOrder s p) entered entered-room (length (unfolded s p)))
 
   online-length : length (s .lost .online) ≡ roomOf s * 19
   online-length = omega (arith, w .sized .online)
@@ -158,7 +161,7 @@ module _ (s : Lent) (p : ℕ) (w : Shaped s) (h : p < pagesOf s) where
               marks = length-put 4 (s .durable .marks) (stampAt p) (greatest 0 (foldable s p)) ∙ z .marks;
               log = z .log;
               stored = stored-length;
-              tables = tables-length (framesOf s) (length (unfolded s p)) (compactedOrder s p) entered entered-room ∙ entered-length;
+              tables = tables-length (framesOf s) (compactedOrder s p) entered entered-room (length (unfolded s p)) ∙ entered-length;
               online = length-kept-table (λ (r : List ℕ). not (gone false 0 p r)) (countOf s) (roomOf s) (s .lost .online) (w .count) online-length ∙ omega arith;
               pool = z .pool;
             };

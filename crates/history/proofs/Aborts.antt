@@ -14,9 +14,9 @@ use Rattle.table.proofs.Laws.{Wide}
 use Rattle.rules.specs.Lent.{Lent, sizeOf, pagesOf, framesOf, roomOf, spanOf, orderOf, entryAt, entriesOf, onlineOf, inFrame, frameOf, pageIn}
 use Rattle.rules.specs.Steps.{owned, others, framesFreed, aborted}
 use Rattle.rules.specs.Sound.{every}
+use Rattle.rules.proofs.Every.{every-set}
 use Rattle.onlinecheck.proofs.Rows.{every-imp}
 use Rattle.onlinecheck.proofs.Laws.{formed-page}
-use Rattle.compact.proofs.Kept.{every-set}
 use Rattle.durable.proofs.Laws.{ranged}
 use Rattle.redo.proofs.Loose.{_≅_, ≅-keep, ≅-every}
 use Rattle.redo.proofs.View.{keep-append}

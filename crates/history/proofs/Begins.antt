@@ -11,12 +11,14 @@ use borrow.Author.Tests.{eqb-true, eqb-false}
 use Rattle.record.specs.Rows.{any}
 use Rattle.record.specs.Record.{onPage}
 use Rattle.order.specs.Order.{without}
-use Rattle.rules.specs.Lent.{Lent, pagesOf, entryOf, inFrame, frameOf, isDirty, pageIn}
+use Rattle.rules.specs.Lent.{Lent, pagesOf, orderOf, entryOf, entriesOf, onlineOf, inFrame, frameOf, isDirty, pageIn}
 use Rattle.rules.specs.Steps.{freedOf, begun, evicted}
-use Rattle.compact.proofs.Kept.{every-set}
+use Rattle.rules.proofs.Every.{every-set}
+use Rattle.rules.proofs.Needed.{evicted-dirty}
 use Rattle.seats.proofs.Seated.{Seated}
-use Rattle.seats.proofs.Places.{left-none, left-dirty, seated-leave}
-use Rattle.readback.proofs.Lost.{entry-whole, reads-begun, reads-evicted}
+use Rattle.seats.proofs.Places.{left-none, seated-leave}
+use Rattle.readback.proofs.Seen.{livesOf, Reads}
+use Rattle.readback.proofs.Lost.{entry-reads, entry-whole, reads-begun, reads-evicted}
 use Rattle.history.specs.Past.{Past, begins}
 use Rattle.history.proofs.Right.{Ground, LostRight, Right}
 use Rattle.history.proofs.Settle.{settle}
@@ -51,15 +53,15 @@ module _ {g : Ground} {done opened : List (List ℕ)} {live : ℕ → Bool} {fra
       }
 
   -- evict of page p, whose entry is e: "clean becomes absent, dirty becomes evicted", and the other entries are as they were
-  module _ (p e : ℕ) (m : p < g .pages) (k : e ≡ getD entries p 0) where
+  module _ (p e : ℕ) (m : p < g .pages) (k : e ≡ getD entries p 0) (d : isDirty (getD (set entries p (e % 2)) p 0) ≡ isDirty e) where
     here : getD (set entries p (e % 2)) p 0 ≡ e % 2
     here = getD-set-same entries p (e % 2) 0 (omega (arith, l .entries-length))
 
-    evicted-dirty : (q : ℕ) → q < g .pages → isDirty (getD (set entries p (e % 2)) q 0) ≡ any (onPage q) online
-    evicted-dirty q n = go (eqb q p) refl
+    dirty-left : (q : ℕ) → q < g .pages → isDirty (getD (set entries p (e % 2)) q 0) ≡ any (onPage q) online
+    dirty-left q n = go (eqb q p) refl
       where
         go : (t : Bool) → eqb q p ≡ t → isDirty (getD (set entries p (e % 2)) q 0) ≡ any (onPage q) online
-        go true z = rw (eqb-true q p z) (ap (λ (x : ℕ). isDirty x) here ∙ left-dirty e ∙ ap (λ (x : ℕ). isDirty x) k ∙ l .dirty p m)
+        go true z = rw (eqb-true q p z) (d ∙ ap (λ (x : ℕ). isDirty x) k ∙ l .dirty p m)
         go false z = ap (λ (x : ℕ). isDirty x) (getD-set-other entries p q (e % 2) 0 (eqb-false q p z)) ∙ l .dirty q n
 
     -- a page that is in a frame then was there before
@@ -84,7 +86,7 @@ module _ {g : Ground} {done opened : List (List ℕ)} {live : ℕ → Bool} {fra
           lives-length = l .lives-length;
           lives-bits = l .lives-bits;
           alive = l .alive;
-          dirty = evicted-dirty;
+          dirty = dirty-left;
           online-is = l .online-is;
           frame = λ q n j.
             let z : getD (set entries p (e % 2)) q 0 ≡ getD entries q 0 = evicted-stays q j in
@@ -101,4 +103,7 @@ pub keeps-evict : {g : Ground} {done : List (List ℕ)} {h : Past} {s : Lent} (p
 unfolding evicted
 keeps-evict {g} {s = s} p m f r =
     let n : p < g .pages = omega (arith, r .durable .pages) in
-    settle (reads-evicted s p (r .whole) m) (r .past) (r .durable) (lost-evict (r .lost) p (entryOf s p) n (entry-whole s p (r .whole) m) f)
+    let w : Reads (evicted s p .lent) (without (frameOf (entryOf s p)) (orderOf s)) (livesOf s) (set (entriesOf s) p (entryOf s p % 2)) (onlineOf s) = reads-evicted s p (r .whole) m in
+    let d : isDirty (getD (set (entriesOf s) p (entryOf s p % 2)) p 0) ≡ isDirty (entryOf s p) =
+    ap (λ (e : ℕ). isDirty e) (sym (entry-reads w p m)) ∙ evicted-dirty s p (omega (arith, r .whole .areas .tables)) in
+    settle w (r .past) (r .durable) (lost-evict (r .lost) p (entryOf s p) n (entry-whole s p (r .whole) m) d f)

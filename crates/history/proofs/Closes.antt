@@ -15,6 +15,8 @@ use Rattle.record.specs.Record.{pageOf, numberOf, committed, applied, onPage, c
 use Rattle.rules.specs.Lent.{Lent, pagesOf, framesOf, roomOf, spanOf, lastOf, closedOf, loggedOf, dirtyOf, firstOf, logOf, orderOf, entriesOf, onlineOf, pageIn}
 use Rattle.rules.specs.Sound.{every, between, inRange}
 use Rattle.rules.specs.Steps.{droppedBy, closed}
+use Rattle.rules.proofs.Extremes.{numberAtMost}
+use Rattle.rules.proofs.Needed.{dropped-below}
 use Rattle.onlinecheck.specs.Online.{pageBelow}
 use Rattle.onlinecheck.proofs.Rows.{and-both, every-imp}
 use Rattle.onlinecheck.proofs.Laws.{formed-page}
@@ -22,13 +24,12 @@ use Rattle.redo.proofs.Loose.{_≅_}
 use Rattle.redo.proofs.Views.{keep-same-where}
 use Rattle.redo.proofs.Numbered.{numberedFrom-committed, numberedFrom-formed, numberedFrom-between}
 use Rattle.readback.proofs.Seen.{livesOf}
-use Rattle.readback.proofs.Extremes.{numberAtMost}
 use Rattle.readback.proofs.Marks.{marks-close, last-close, closed-close, logged-close, stamp-close, dirty-close}
 use Rattle.readback.proofs.Log.{log-close, log-zero-close, log-length-close}
 use Rattle.readback.proofs.Lost.{reads-closed}
 use Rattle.history.specs.Past.{Past}
 use Rattle.history.proofs.Tested.{and-in, or-right, every-two}
-use Rattle.history.proofs.Least.{online-all, least-within, lacked-least, lacked-dirty}
+use Rattle.history.proofs.Least.{online-all, kept-numbered, kept-from, least-within, lacked-from, lacked-dirty}
 use Rattle.history.proofs.Right.{Ground, DurableRight, LostRight, Right, rowsOf, uncommitted, openOf, aboveStamp, openRow}
 use Rattle.history.proofs.Soundly.{open-facts}
 use Rattle.history.proofs.Settle.{settle}
@@ -130,7 +131,7 @@ module _ (g : Ground) (done : List (List ℕ)) (h : Past) (s : Lent) (r : Right 
           let d : droppedBy s ≡ least - firstOf s = dropped-before (omega (arith, e .0)) in
           omega (arith, d, e .0, e .1, logged-last)
 
-  -- L stays, K becomes L, the log begins with that number
+  -- L stays, K becomes L, the log begins behind what is dropped
   last-same : lastOf after ≡ lastOf s
   last-same = last-close s whole-marks (r .durable .bound) small
 
@@ -140,26 +141,17 @@ module _ (g : Ground) (done : List (List ℕ)) (h : Past) (s : Lent) (r : Right 
   logged-is : loggedOf after ≡ loggedOf s - droppedBy s
   logged-is = logged-close s whole-marks (r .durable .bound) small
 
-  first-is : 1 ≤ least → firstOf after ≡ least
-  first-is k = go least-logged
-    where
-      go : (least ≡ 0) ⊎ ((firstOf s ≤ least) × (least ≤ lastOf s)) → firstOf after ≡ least
-      go (inl e) = absurd (omega (arith, e, k))
-      go (inr e) =
-          let d : droppedBy s ≡ least - firstOf s = dropped-before k in
-          omega (arith, d, e .0, e .1, logged-last, last-same, logged-is)
+  first-is : firstOf after ≡ firstOf s + droppedBy s
+  first-is = omega (arith, dropped-few, logged-last, last-same, logged-is)
 
-  -- what no stored page holds is still in the log
+  -- what no stored page holds is online, and no record is dropped that is still online: so it is still in the log
   needed-after : every (λ (q : List ℕ). not (above q) || leb (firstOf after) (numberOf q)) (rowsOf g done) ≡ true
   needed-after =
-      every-imp (λ (q : List ℕ). not (above q) || (leb 1 least && leb least (numberOf q))) (λ (q : List ℕ). not (above q) || leb (firstOf after) (numberOf q))
-      (λ q e. imply (above q) (leb 1 least && leb least (numberOf q)) (leb (firstOf after) (numberOf q)) (tell q) e) (rowsOf g done)
-      (lacked-least above (rowsOf g done) (openOf h) (r .lost .online-is) (firstOf s) (lastOf s) (omega arith) (to-last (firstOf s) (r .durable .needed)) open-unset rows-committed)
-    where
-      tell : (q : List ℕ) → (leb 1 least && leb least (numberOf q)) ≡ true → leb (firstOf after) (numberOf q) ≡ true
-      tell q e =
-          let a : (leb 1 least ≡ true) × (leb least (numberOf q) ≡ true) = and-both (leb 1 least) (leb least (numberOf q)) e in
-          ap (λ (n : ℕ). leb n (numberOf q)) (first-is (leb-true 1 least (a .0))) ∙ a .1
+      ap (λ (n : ℕ). every (λ (q : List ℕ). not (above q) || leb n (numberOf q)) (rowsOf g done)) first-is
+      ∙ lacked-from above (rowsOf g done) (openOf h) (r .lost .online-is) rows-committed (firstOf s + droppedBy s)
+        (dropped-below s
+        (kept-numbered above (rowsOf g done) (openOf h) (r .lost .online-is) (firstOf s) (lastOf s) (omega arith) (to-last (firstOf s) (r .durable .needed)) open-unset committed (λ q e. e))
+        (kept-from above (rowsOf g done) (openOf h) (r .lost .online-is) (firstOf s) (lastOf s) (omega arith) (to-last (firstOf s) (r .durable .needed)) open-unset committed (λ q e. e)))
 
   -- a page's dirty number is none, or one of the log's
   dirty-is : (p : ℕ) → p < g .pages → dirtyOf after p ≡ smallest 0 (keep (committedOn p) (onlineOf s))

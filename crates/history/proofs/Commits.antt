@@ -14,8 +14,8 @@ use Rattle.table.proofs.Laws.{Wide, keep-length}
 use Rattle.rules.specs.Lent.{Lent, framesOf, spanOf, lastOf, loggedOf, orderOf, entriesOf, onlineOf, inFrame, pageIn}
 use Rattle.rules.specs.Steps.{owned, committing}
 use Rattle.rules.specs.Sound.{every, pairs, apart}
+use Rattle.rules.proofs.Every.{every-set}
 use Rattle.onlinecheck.proofs.Rows.{every-imp}
-use Rattle.compact.proofs.Kept.{every-set}
 use Rattle.redo.proofs.View.{SameBodies, none, one, body-page, numberRows-bodies, page-numberRows}
 use Rattle.redo.proofs.Loose.{_≅_, then, numberedFrom, ≅-equal, ≅-number}
 use Rattle.redo.proofs.Numbered.{numberedFrom-committed}

@@ -15,6 +15,7 @@ use Rattle.table.proofs.Laws.{keep-length}
 use Rattle.rules.specs.Lent.{Durable, Lent, sizeOf, pagesOf, framesOf, roomOf, spanOf, lastOf, entryOf, entriesOf, orderOf, onlineOf, inFrame, frameOf, isDirty, cleanIn, pageIn}
 use Rattle.rules.specs.Sound.{every, pairs}
 use Rattle.rules.specs.Steps.{freedOf, foldable, due, fromFrame, compactedPage, compactedEntry, compactedOrder, unfolded, compacted}
+use Rattle.rules.proofs.Extremes.{numberAtMost}
 use Rattle.onlinecheck.proofs.Rows.{and-both, every-imp}
 use Rattle.durable.proofs.Laws.{ranged}
 use Rattle.redo.proofs.Loose.{_≅_}
@@ -22,7 +23,6 @@ use Rattle.redo.proofs.Views.{rising}
 use Rattle.redo.proofs.Numbered.{numberedFrom-committed, numberedFrom-from, numberedFrom-rising}
 use Rattle.seats.proofs.Seated.{Seated}
 use Rattle.seats.proofs.Places.{half-none, clean-frame, clean-not-dirty, seated-clean, seated-leave}
-use Rattle.readback.proofs.Extremes.{numberAtMost}
 use Rattle.readback.proofs.Pages.{page-length}
 use Rattle.readback.proofs.Seen.{livesOf}
 use Rattle.readback.proofs.Lost.{entry-whole, reads-compacted}

@@ -7,19 +7,20 @@ use mathlib.Core.Bool.{Bool, true, false, not, _&&_, _||_, and-true, and-false}
 use mathlib.Core.List.{List, [], _∷_, _++_, append-nil}
 use lib.ListN.{length}
 use lib.Dec.{eqb, leb, ltb}
-use borrow.Author.Tests.{leb-true, ltb-true, ltb-false, le-ltb, eqb-true, eqb-false, eq-eqb, ne-eqb, not-true}
+use borrow.Author.Tests.{leb-true, ltb-true, ltb-false, le-ltb, eqb-true, eqb-false, eq-eqb, ne-eqb}
 use Rattle.word.specs.Word.{num}
 use Rattle.record.specs.Rows.{keep, consIf, any}
 use Rattle.record.specs.Record.{pageOf, numberOf, committed, applied, onPage, committedOn, gone, greatest}
 use Rattle.rules.specs.Lent.{stampAt}
 use Rattle.rules.specs.Sound.{every, pairs}
+use Rattle.rules.proofs.Extremes.{numberAtMost, greatest-all, greatest-most}
+use Rattle.rules.proofs.Needed.{open-stays}
 use Rattle.onlinecheck.proofs.Rows.{and-both, every-imp}
 use Rattle.redo.proofs.Order.{≈-picked}
 use Rattle.redo.proofs.Loose.{_≅_, then, ≅-equal, ≅-keep, ≅-free, ≅-every}
 use Rattle.redo.proofs.View.{keep-append}
 use Rattle.redo.proofs.Views.{rising, keep-keep, keep-same, keep-same-where, keep-both, keep-all, keep-none, stored-then-online}
 use Rattle.redo.proofs.Reader.{every-keep as every-kept-where}
-use Rattle.readback.proofs.Extremes.{numberAtMost, greatest-all, greatest-most}
 use Rattle.history.proofs.Tested.{every-keep}
 use Rattle.history.proofs.Right.{uncommitted, aboveStamp}
 
@@ -119,7 +120,7 @@ module _ (p : ℕ) (above : List ℕ → Bool) (rows opened online : List (List 
   kept-committed = every-keep above committed rows hc
 
   opened-stays : every (stays p) opened ≡ true
-  opened-stays = every-imp uncommitted (stays p) (λ r e. ap (λ (t : Bool). not (onPage p r && t)) (not-true (committed r) e) ∙ ap not (and-false (onPage p r))) opened ho
+  opened-stays = every-imp uncommitted (stays p) (open-stays p) opened ho
 
   -- the page's committed records of these
   committed-part : keep (committedOn p) (keep above rows ++ opened) ≡ keep (onPage p) (keep above rows)

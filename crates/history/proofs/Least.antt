@@ -1,20 +1,22 @@
 -- The smallest numbers of committed online records, from which close takes the dirty numbers and what it drops from the log, over plain rows.
--- They are numbers of updates that no stored page holds, and no such update is numbered below them, so close drops none that is needed.
+-- They are numbers of updates that no stored page holds, and what bounds the numbers of all committed online records bounds those of all such updates, so close drops none that is needed.
 use Prim.Native.Nat.{ℕ, _≤_}
 use native.Mathlib.Omega.{arith}
 use mathlib.Core.Path.{_≡_, refl, sym, _∙_}
 use mathlib.Core.Logic.{_⊎_, inl, inr}
 use mathlib.Core.Bool.{Bool, true, false, not, _&&_, _||_}
 use mathlib.Core.List.{List, [], _∷_, _++_}
+use lib.ListN.{length}
 use lib.Dec.{eqb, leb}
 use borrow.Author.Tests.{eqb-true, eq-eqb, leb-true, le-leb}
 use Rattle.record.specs.Rows.{keep, consIf, any}
 use Rattle.record.specs.Record.{pageOf, numberOf, committed, committedOn, smallest}
 use Rattle.onlinecheck.proofs.Rows.{and-both, every-imp}
 use Rattle.rules.specs.Sound.{every, between}
+use Rattle.rules.proofs.Every.{meet}
+use Rattle.rules.proofs.Extremes.{hasNumber, smallest-found, smallest-nothing, smallest-some}
 use Rattle.redo.proofs.Loose.{_≅_, ≅-any, ≅-every}
-use Rattle.readback.proofs.Extremes.{hasNumber, meet, smallest-all, smallest-found, smallest-nothing, smallest-some}
-use Rattle.history.proofs.Tested.{and-in, or-left, or-right, or-of, every-append, every-two, every-kept, every-keep}
+use Rattle.history.proofs.Tested.{and-in, or-left, or-right, every-append, every-two, every-kept, every-keep}
 use Rattle.history.proofs.Right.{uncommitted}
 
 -- a test of those kept, told of all
@@ -74,17 +76,15 @@ least-between first last low (r ∷ l) h =
         let b : numberOf q ≤ last = leb-true (numberOf q) last (f .1) in
         (omega arith, omega arith)
 
--- a smallest number, and that a row is not numbered below it
-abbrev atLeast : ℕ → List ℕ → Bool
-atLeast m r = leb 1 m && leb m (numberOf r)
-
-least-below : (l : List (List ℕ)) → every hasNumber l ≡ true → every (atLeast (smallest 0 l)) l ≡ true
-unfolding every
-least-below [] h = refl
-least-below (r ∷ l) h =
-    every-imp (λ (q : List ℕ). leb (smallest 0 (r ∷ l)) (numberOf q)) (atLeast (smallest 0 (r ∷ l)))
-    (λ q e. and-in (leb 1 (smallest 0 (r ∷ l))) (leb (smallest 0 (r ∷ l)) (numberOf q)) (le-leb 1 (smallest 0 (r ∷ l)) (smallest-some (r ∷ l) h (omega arith))) e)
-    (r ∷ l) (smallest-all (r ∷ l) h)
+-- one passes, so one is kept
+some-kept : (d : List ℕ → Bool) (l : List (List ℕ)) → any d l ≡ true → 1 ≤ length (keep d l)
+unfolding any keep
+some-kept d [] h = let z : _≡_ {A = ℕ} 0 1 = cc in absurd (omega arith)
+some-kept d (r ∷ l) h = pick (d r) (some-kept d l) h
+  where
+    pick : (t : Bool) → (any d l ≡ true → 1 ≤ length (keep d l)) → (t || any d l) ≡ true → 1 ≤ length (consIf t r (keep d l))
+    pick true f k = omega arith
+    pick false f k = f k
 
 -- `above` picks the committed updates that no stored page holds: online are these, then the uncommitted ones
 module _ (above : List ℕ → Bool) (rows opened : List (List ℕ)) {online : List (List ℕ)} (is : online ≅ keep above rows ++ opened) where
@@ -93,6 +93,13 @@ module _ (above : List ℕ → Bool) (rows opened : List (List ℕ)) {online : L
 
   lacked-all : (c : List ℕ → Bool) → every c online ≡ true → every (λ (r : List ℕ). not (above r) || c r) rows ≡ true
   lacked-all c h = kept-every above c rows (every-front c (keep above rows) opened (sym (≅-every c is) ∙ h))
+
+  -- where no committed online record is numbered below n, no update that a stored page lacks is
+  pub lacked-from : every committed rows ≡ true → (n : ℕ) → every (λ (r : List ℕ). leb n (numberOf r)) (keep committed online) ≡ true → every (λ (r : List ℕ). not (above r) || leb n (numberOf r)) rows ≡ true
+  lacked-from all-committed n h =
+      every-two committed (λ (r : List ℕ). not (above r) || (not (committed r) || leb n (numberOf r))) (λ (r : List ℕ). not (above r) || leb n (numberOf r))
+      (λ r e k. rw (e) at k) rows all-committed
+      (lacked-all (λ (r : List ℕ). not (committed r) || leb n (numberOf r)) (kept-every committed (λ (r : List ℕ). leb n (numberOf r)) online h))
 
   -- the updates that no stored page holds are numbered from `first` to `last`
   module _ (first last : ℕ) (low : 1 ≤ first) (within : every (λ (r : List ℕ). not (above r) || between first (numberOf r) last) rows ≡ true) (unset : every uncommitted opened ≡ true) where
@@ -111,30 +118,22 @@ module _ (above : List ℕ → Bool) (rows opened : List (List ℕ)) {online : L
           passes-not r true e h = let f : committed r ≡ true = picks r e in let z : _≡_ {A = ℕ} 0 1 = cc in absurd (omega arith)
           passes-not r false e h = refl
 
-      kept-numbered : every hasNumber (keep d online) ≡ true
+      -- they have numbers, and none below `first`
+      pub kept-numbered : every hasNumber (keep d online) ≡ true
       kept-numbered = every-imp (λ (r : List ℕ). between first (numberOf r) last) hasNumber (λ r e. le-leb 1 (numberOf r) (omega (arith, leb-true first (numberOf r) (and-both (leb first (numberOf r)) (leb (numberOf r) last) e .0)))) (keep d online) kept-within
+
+      pub kept-from : every (λ (r : List ℕ). leb first (numberOf r)) (keep d online) ≡ true
+      kept-from = every-imp (λ (r : List ℕ). between first (numberOf r) last) (λ (r : List ℕ). leb first (numberOf r)) (λ r e. and-both (leb first (numberOf r)) (leb (numberOf r) last) e .0) (keep d online) kept-within
 
       -- the smallest number of such online records: none, or one of those numbers
       pub least-within : (smallest 0 (keep d online) ≡ 0) ⊎ ((first ≤ smallest 0 (keep d online)) × (smallest 0 (keep d online) ≤ last))
       least-within = least-between first last low (keep d online) kept-within
 
-      least-online : every (λ (r : List ℕ). not (d r) || atLeast (smallest 0 (keep d online)) r) online ≡ true
-      least-online = kept-every d (atLeast (smallest 0 (keep d online))) online (least-below (keep d online) kept-numbered)
-
       found-least : any d online ≡ true → 1 ≤ smallest 0 (keep d online)
-      found-least k =
-          meet (λ (r : List ℕ). not (d r) || atLeast (smallest 0 (keep d online)) r) d online least-online k
-          (λ r a e. leb-true 1 (smallest 0 (keep d online)) (and-both (leb 1 (smallest 0 (keep d online))) (leb (smallest 0 (keep d online)) (numberOf r)) (or-of (d r) (atLeast (smallest 0 (keep d online)) r) e a) .0))
+      found-least k = smallest-some (keep d online) kept-numbered (some-kept d online k)
 
     module _ (all-committed : every committed rows ≡ true) where
-      -- no update that a stored page lacks is numbered below the smallest of all, and there is a smallest if there is such an update
-      pub lacked-least : every (λ (r : List ℕ). not (above r) || (leb 1 (smallest 0 (keep committed online)) && leb (smallest 0 (keep committed online)) (numberOf r))) rows ≡ true
-      lacked-least =
-          every-two committed (λ (r : List ℕ). not (above r) || (not (committed r) || atLeast (smallest 0 (keep committed online)) r)) (λ (r : List ℕ). not (above r) || atLeast (smallest 0 (keep committed online)) r)
-          (λ r e h. rw (e) at h) rows all-committed
-          (lacked-all (λ (r : List ℕ). not (committed r) || atLeast (smallest 0 (keep committed online)) r) (least-online committed (λ r e. e)))
-
-      -- and its page has a smallest
+      -- the page of an update that a stored page lacks has a smallest number
       pub lacked-dirty : every (λ (r : List ℕ). not (above r) || leb 1 (smallest 0 (keep (committedOn (pageOf r)) online))) rows ≡ true
       lacked-dirty = kept-every above (λ (r : List ℕ). leb 1 (smallest 0 (keep (committedOn (pageOf r)) online))) rows
           (every-imp (λ (r : List ℕ). any (committedOn (pageOf r)) (keep above rows ++ opened)) (λ (r : List ℕ). leb 1 (smallest 0 (keep (committedOn (pageOf r)) online)))

@@ -7,13 +7,14 @@ use mathlib.Core.Bool.{Bool, true, false, not, _&&_, _||_, false≢true}
 use mathlib.Core.List.{List, [], append-nil}
 use lib.ListN.{length, drop, replicate, length-drop, length-replicate, getD-replicate}
 use lib.Dec.{eqb, leb, ltb}
-use borrow.Author.Tests.{leb-false, ltb-true, ltb-false, lt-ltb, le-leb, lt-leb, not-true}
+use borrow.Author.Tests.{ltb-true, ltb-false, lt-ltb, le-leb, lt-leb}
 use Rattle.record.specs.Rows.{consIf, keep}
 use Rattle.record.specs.Record.{pageOf, numberOf, entered, committed, wellFormed}
 use Rattle.table.proofs.Laws.{Wide, none, one, wide-drop, wide-keep}
 use Rattle.rules.specs.Lent.{Lent, Lost, sizeOf, pagesOf, framesOf, roomOf, spanOf, lastOf, closedOf, loggedOf, stampOf, dirtyOf, firstOf}
 use Rattle.rules.specs.Steps.{enters, entering, enteringAll, restarted}
 use Rattle.rules.specs.Sound.{every}
+use Rattle.rules.proofs.Needed.{enters-above}
 use Rattle.onlinecheck.proofs.Rows.{and-both, every-imp}
 use Rattle.onlinecheck.proofs.Laws.{formed-page}
 use Rattle.durable.proofs.Laws.{ranged}
@@ -73,9 +74,6 @@ front-passed c first k (suc d) (one {r = b} {rs = l} w ws) e p m h =
     unpicked false z = refl
 
 -- the second rule is that the row is above its stamp; the first decides nothing of such a row
-ruled-above : (x : Bool) (stamp n : ℕ) → (not x && not (leb n stamp)) ≡ true → ltb stamp n ≡ true
-ruled-above x stamp n h = lt-ltb stamp n (leb-false n stamp (not-true (leb n stamp) (and-both (not x) (not (leb n stamp)) h .1)))
-
 ruled-same : (x : Bool) (stamp n : ℕ) → (not (ltb stamp n) || not x) ≡ true → (not x && not (leb n stamp)) ≡ ltb stamp n
 ruled-same x stamp n h = go (ltb stamp n) refl h
   where
@@ -119,7 +117,7 @@ entering-is g done s w d =
     needed = every-imp (λ (r : List ℕ). not (above r) || leb (firstOf s) (numberOf r)) (λ (r : List ℕ). not (ruled s r) || leb (firstOf s) (numberOf r)) (λ r h. go r (ruled s r) refl h) (rowsOf g done) (d .needed)
       where
         go : (r : List ℕ) (t : Bool) → ruled s r ≡ t → (not (above r) || leb (firstOf s) (numberOf r)) ≡ true → (not t || leb (firstOf s) (numberOf r)) ≡ true
-        go r true e h = ap (λ (t : Bool). not t || leb (firstOf s) (numberOf r)) (sym (ruled-above (passed r) (stampOf s (pageOf r)) (numberOf r) e)) ∙ h
+        go r true e h = ap (λ (t : Bool). not t || leb (firstOf s) (numberOf r)) (sym (lt-ltb (stampOf s (pageOf r)) (numberOf r) (enters-above s (numberOf r) r e))) ∙ h
         go r false e h = refl
 
 -- what enters fits the online table

@@ -3,6 +3,5 @@ pub mod Seen
 pub mod Tables
 pub mod Lost
 pub mod Pages
-pub mod Extremes
 pub mod Marks
 pub mod Log

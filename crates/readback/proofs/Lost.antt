@@ -10,6 +10,7 @@ use lib.Dec.{ltb}
 use Rattle.record.specs.Part.{part}
 use Rattle.record.specs.Rows.{rows, table, consIf, keep}
 use Rattle.record.specs.Record.{pageOf, apply, applied, onPage, ownedBy, gone, numberRows}
+use Rattle.record.proofs.Parts.{length-part, length-with}
 use Rattle.apply.proofs.Laws.{length-apply, length-applied}
 use Rattle.order.specs.Order.{without, touched}
 use Rattle.order.proofs.Laws.{length-without}
@@ -17,7 +18,6 @@ use Rattle.table.proofs.Laws.{Wide, none, one, keep-length, wide-keep, wide-app
 use Rattle.rules.specs.Lent.{Lent, sizeOf, pagesOf, framesOf, roomOf, lastOf, countOf, liveOf, orderOf, entryAt, entryOf, entriesOf, onlineOf, inFrame, frameOf, isDirty, dirtyIn, pageIn, withPage}
 use Rattle.rules.specs.Sound.{every, zeros}
 use Rattle.rules.specs.Steps.{begun, freedOf, placeOf, freed, placed, rebuilt, fetchedEntries, fetchedPool, readTables, readStep, updateTables, updated, owned, committing, others, framesFreed, judgedAnew, aborted, evicted, fromFrame, compactedEntry, compactedOrder, unfolded, compacted, closed, enteringAll, restarted, formatted}
-use Rattle.compact.proofs.Kept.{length-part, length-with}
 use Rattle.compact.proofs.Laws.{one-fits}
 use Rattle.readback.proofs.Seen.{livesOf, Areas, Reads, Whole}
 use Rattle.seats.proofs.Loops.{judgedEntries, evictedEntries}
@@ -128,8 +128,11 @@ length-fetched-pool s p a h q =
 pub count-whole : (s : Lent) → Whole s → countOf s ≡ length (onlineOf s)
 count-whole s w = w .count
 
+pub entry-reads : {s : Lent} {order lives entries : List ℕ} {online : List (List ℕ)} → Reads s order lives entries online → (p : ℕ) → p < pagesOf s → entryOf s p ≡ getD entries p 0
+entry-reads w p h = entry-says (tables-say w) p h
+
 pub entry-whole : (s : Lent) (p : ℕ) → Whole s → p < pagesOf s → entryOf s p ≡ getD (entriesOf s) p 0
-entry-whole s p w h = entry-says (tables-say w) p h
+entry-whole s p w h = entry-reads w p h
 
 pub live-whole : (s : Lent) (x : ℕ) → Whole s → 1 ≤ x → x ≤ 32 → liveOf s x ≡ getD (livesOf s) (x - 1) 0
 live-whole s x w h k = live-says (tables-say w) x h k

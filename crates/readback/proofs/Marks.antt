@@ -10,18 +10,20 @@ use lib.Dec.{eqb, leb}
 use borrow.Author.Tests.{eqb-true, eqb-false, leb-true, leb-false}
 use Rattle.word.specs.Word.{num, put}
 use Rattle.word.proofs.Laws.{length-put}
+use Rattle.word.proofs.Puts.{num-put, num-put-below, num-put-above}
 use Rattle.record.specs.Part.{withPart}
 use Rattle.record.specs.Rows.{keep, consIf}
 use Rattle.record.specs.Record.{pageOf, numberOf, committed, committedOn, lesser, smallest, greatest}
 use Rattle.record.proofs.Laws.{num-part}
+use Rattle.record.proofs.Parts.{length-with, getD-with-below, part-with}
 use Rattle.rules.specs.Lent.{Lent, sizeOf, pagesOf, framesOf, roomOf, spanOf, lastOf, closedOf, loggedOf, stampAt, dirtyAt, stampOf, dirtyOf, onlineOf}
 use Rattle.rules.specs.Sound.{every, inRange}
 use Rattle.rules.specs.Steps.{owned, committing, foldable, compacted, lowered, droppedBy, closed, stamped, formatted}
-use Rattle.compact.proofs.Kept.{num-put, num-put-below, num-put-above, length-with, getD-with-below, part-with}
+use Rattle.rules.proofs.Every.{both}
+use Rattle.rules.proofs.Extremes.{hasNumber, numberAtMost, lesser-most, smallest-wider}
 use Rattle.closing.proofs.Laws.{length-lowered}
 use Rattle.durable.specs.Ranges.{Ranged}
 use Rattle.durable.proofs.Laws.{ranged}
-use Rattle.readback.proofs.Extremes.{hasNumber, numberAtMost, both, lesser-most, smallest-wider}
 
 -- a number of 4 bytes where it was put
 here : (l : List ℕ) (at v : ℕ) → at + 4 ≤ length l → v ≤ 4294967295 → num 4 (put 4 l at v) at ≡ v

@@ -12,15 +12,16 @@ use lib.Dec.{ltb}
 use borrow.Author.Tests.{ltb-true}
 use Rattle.word.specs.Word.{num, put}
 use Rattle.word.proofs.Laws.{length-put}
+use Rattle.word.proofs.Puts.{num-put, drop-put, take-put}
 use Rattle.record.specs.Part.{part, withPart}
 use Rattle.record.specs.Rows.{any}
 use Rattle.record.specs.Record.{pageOf, onPage}
 use Rattle.record.proofs.Laws.{getD-part, num-front}
+use Rattle.record.proofs.Parts.{length-with, drop-with, part-with, part-set}
 use Rattle.rules.specs.Lent.{liveAt, entryAt, withOrder, withEntries, withCount}
 use Rattle.rules.specs.Sound.{every, zeros}
 use Rattle.rules.specs.Steps.{judgedAnew, evictedAll}
 use Rattle.seats.proofs.Loops.{judgedEntries, evictedEntries}
-use Rattle.compact.proofs.Kept.{num-put, drop-put, take-put, length-with, drop-with, part-with, part-set}
 
 -- count of online rows, use order, live bytes and page entries that are read in tables t
 pub record Says (frames pages : ℕ) (t : List ℕ) (count : ℕ) (order lives entries : List ℕ) : Type 0 where

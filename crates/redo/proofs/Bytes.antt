@@ -11,9 +11,9 @@ use lib.Seq.{getD-set-same}
 use lib.Dec.{leb}
 use borrow.Author.Tests.{leb-true, leb-false}
 use Rattle.word.specs.Word.{num, put}
+use Rattle.word.proofs.Puts.{getD-put-below, getD-put-above}
 use Rattle.record.specs.Record.{changed, change}
 use Rattle.apply.proofs.Laws.{room-both}
-use Rattle.compact.proofs.Kept.{getD-put-below, getD-put-above}
 
 -- a place is outside the n bytes from a on
 abbrev pub Outside : ℕ → ℕ → ℕ → Type 0

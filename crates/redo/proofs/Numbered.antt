@@ -10,15 +10,16 @@ use mathlib.Core.List.{List, [], _∷_, _++_}
 use lib.ListN.{length, getD, drop, set, replicate, length-append, length-set, length-replicate, List·getD-append}
 use lib.Seq.{getD-set-same, getD-set-other, ext-getD, take-at, take-set-le, getD-at, length-take-le}
 use lib.Dec.{leb, ltb}
-use borrow.Author.Tests.{eqb-true, eq-eqb, ne-eqb, leb-true, ltb-true, ltb-false, lt-ltb, le-leb, not-true}
+use borrow.Author.Tests.{eqb-true, eq-eqb, ne-eqb, leb-true, ltb-true, ltb-false, lt-ltb, le-leb}
 use Rattle.word.specs.Word.{num, put}
 use Rattle.word.proofs.Laws.{length-put}
-use Rattle.record.specs.Rows.{keep, consIf}
+use Rattle.word.proofs.Puts.{getD-put-below, getD-put-above, num-put, num-put-below, take-put}
+use Rattle.record.specs.Rows.{keep}
 use Rattle.record.specs.Record.{pageOf, offsetOf, lengthOf, kindOf, valueOf, ownerOf, numberOf, committed, ownedBy, bodyOf, wellFormed, rowOf, numbered, entered}
+use Rattle.record.proofs.Laws.{numbered-owner}
 use Rattle.table.proofs.Laws.{Wide, none, one, length-numbered, length-entered}
 use Rattle.rules.specs.Sound.{every, pairs}
 use Rattle.onlinecheck.proofs.Rows.{and-both, every-imp}
-use Rattle.compact.proofs.Kept.{getD-put-below, getD-put-above, num-put, num-put-below, take-put}
 use Rattle.redo.proofs.Bytes.{Agree, num-agree, put-outside, put-inside}
 use Rattle.redo.proofs.View.{SameBody, body-page, body-offset, body-length, numbered-body, entered-body}
 use Rattle.redo.proofs.Views.{keep-all, keep-none}
@@ -75,12 +76,8 @@ module _ (r : List ℕ) (k : ℕ) (h : length r ≡ 19) where
   cleared : length (set r 14 0) ≡ 19
   cleared = length-set r 14 0 ∙ h
 
-  pub numbered-owner : ownerOf (numbered r k) ≡ 0
-  unfolding numbered
-  numbered-owner = getD-put-below 4 (set r 14 0) 15 k 14 (omega arith) ∙ getD-set-same r 14 0 0 (omega arith)
-
   pub numbered-committed : committed (numbered r k) ≡ true
-  numbered-committed = eq-eqb (ownerOf (numbered r k)) 0 numbered-owner
+  numbered-committed = eq-eqb (ownerOf (numbered r k)) 0 (numbered-owner r k h)
 
   pub numbered-number : k ≤ 4294967295 → numberOf (numbered r k) ≡ k
   unfolding numbered

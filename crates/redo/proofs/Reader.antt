@@ -13,12 +13,12 @@ use Rattle.word.specs.Word.{num}
 use Rattle.record.specs.Part.{part}
 use Rattle.record.specs.Rows.{keep, consIf, any}
 use Rattle.record.specs.Record.{pageOf, offsetOf, lengthOf, kindOf, valueOf, ownerOf, numberOf, committed, apply, applied, onPage, committedOn, ownedBy, shareByte}
+use Rattle.record.proofs.Parts.{length-part}
 use Rattle.apply.proofs.Laws.{length-applied}
 use Rattle.rules.specs.Lent.{stampAt}
 use Rattle.rules.specs.Sound.{every, pairs, apart}
 use Rattle.rules.specs.Calls.{clashes}
 use Rattle.onlinecheck.proofs.Rows.{and-both, every-imp}
-use Rattle.compact.proofs.Kept.{length-part}
 use Rattle.redo.proofs.Bytes.{Agree, change-outside}
 use Rattle.redo.proofs.Commute.{Disjoint, ranges, disjoint-outside}
 use Rattle.redo.proofs.Order.{_≈_, as-is, swap, behind, both, free, parts, ≈-picked, stable-partition}

@@ -11,10 +11,10 @@ use Rattle.word.proofs.Laws.{length-put}
 use Rattle.record.specs.Part.{withPart}
 use Rattle.record.specs.Rows.{rowAt, rows, joined, table}
 use Rattle.record.specs.Record.{pageOf, entered}
+use Rattle.record.proofs.Parts.{with-take, with-drop, with-length}
 use Rattle.rules.specs.Lent.{Lent, entryAt, framesOf, roomOf}
 use Rattle.rules.specs.Steps.{lostNow, enteringAll, evictedAll, restarted}
 use Rattle.table.proofs.Laws.{joined-cons}
-use Rattle.table.proofs.Moves.{with-take, with-drop, with-length}
 use Rattle.restart.specs.Enter.{entersBy, enteringBy, firstBy, allBy, Readable, Restarts}
 use Rattle.restart.proofs.Laws.{rest, rest-start, rest-yes, rest-no, rest-end, all-read, all-by, readable}
 

@@ -1,3 +1,7 @@
 -- The laws that callers' proofs cite.
 pub mod Verdicts
 pub mod Clauses
+pub mod Every
+pub mod Tables
+pub mod Extremes
+pub mod Needed

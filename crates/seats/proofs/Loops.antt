@@ -16,8 +16,9 @@ use Rattle.order.proofs.Laws.{length-without}
 use Rattle.rules.specs.Lent.{entryAt, inFrame, frameOf, isDirty}
 use Rattle.rules.specs.Steps.{freedOf, framesFreed}
 use Rattle.rules.specs.Sound.{every, serving, times}
+use Rattle.rules.proofs.Every.{every-set, every-without}
+use Rattle.rules.proofs.Needed.{cond-same, walked, walked-length, walked-at}
 use Rattle.onlinecheck.proofs.Rows.{and-both}
-use Rattle.compact.proofs.Kept.{every-set, every-without}
 use Rattle.seats.proofs.Seated.{Seated}
 
 -- the entries once these rows' pages are judged anew by the rows that remain: "evicted if records remain, else absent"
@@ -31,9 +32,8 @@ evictedEntries [] es = es
 evictedEntries (r ∷ rs) es = evictedEntries rs (set es (pageOf r) 1)
 
 -- both are one walk, that sets the entry of each row's page to what v says of the page
-unfoldable walked : (ℕ → ℕ) → List (List ℕ) → List ℕ → List ℕ
-walked v [] es = es
-walked v (r ∷ rs) es = walked v rs (set es (pageOf r) (v (pageOf r)))
+abbrev walk : (ℕ → ℕ) → List (List ℕ) → List ℕ → List ℕ
+walk v rs es = walked (λ (p : ℕ). p) v rs es
 
 abbrev judge : List (List ℕ) → ℕ → ℕ
 judge remain p = cond (any (onPage p) remain) 1 0
@@ -41,53 +41,29 @@ judge remain p = cond (any (onPage p) remain) 1 0
 abbrev evict : ℕ → ℕ
 evict p = 1
 
-judged-walk : (remain rs : List (List ℕ)) (es : List ℕ) → judgedEntries remain rs es ≡ walked (judge remain) rs es
+judged-walk : (remain rs : List (List ℕ)) (es : List ℕ) → judgedEntries remain rs es ≡ walk (judge remain) rs es
 unfolding judgedEntries walked
 judged-walk remain [] es = refl
 judged-walk remain (r ∷ rs) es = judged-walk remain rs (set es (pageOf r) (judge remain (pageOf r)))
 
-evicted-walk : (rs : List (List ℕ)) (es : List ℕ) → evictedEntries rs es ≡ walked evict rs es
+evicted-walk : (rs : List (List ℕ)) (es : List ℕ) → evictedEntries rs es ≡ walk evict rs es
 unfolding evictedEntries walked
 evicted-walk [] es = refl
 evicted-walk (r ∷ rs) es = evicted-walk rs (set es (pageOf r) 1)
 
-walked-length : (v : ℕ → ℕ) (rs : List (List ℕ)) (es : List ℕ) → length (walked v rs es) ≡ length es
-unfolding walked
-walked-length v [] es = refl
-walked-length v (r ∷ rs) es = walked-length v rs (set es (pageOf r) (v (pageOf r))) ∙ length-set es (pageOf r) (v (pageOf r))
-
-cond-same : (b : Bool) (x : ℕ) → cond b x x ≡ x
-cond-same true x = refl
-cond-same false x = refl
-
--- an entry is what the walk says of its page if a row is on it, else as it was
-walked-entry : (v : ℕ → ℕ) (rs : List (List ℕ)) (es : List ℕ) (p : ℕ) → p < length es → getD (walked v rs es) p 0 ≡ cond (any (onPage p) rs) (v p) (getD es p 0)
-unfolding walked any
-walked-entry v [] es p h = refl
-walked-entry v (r ∷ rs) es p h =
-    walked-entry v rs (set es (pageOf r) (v (pageOf r))) p (omega (arith, length-set es (pageOf r) (v (pageOf r)))) ∙ go (onPage p r) refl
-  where
-    go : (b : Bool) → onPage p r ≡ b → cond (any (onPage p) rs) (v p) (getD (set es (pageOf r) (v (pageOf r))) p 0) ≡ cond (b || any (onPage p) rs) (v p) (getD es p 0)
-    go true e =
-        let q : pageOf r ≡ p = eqb-true (pageOf r) p e in
-        ap (λ (k : ℕ). cond (any (onPage p) rs) (v p) (getD (set es k (v k)) p 0)) q
-        ∙ ap (λ (x : ℕ). cond (any (onPage p) rs) (v p) x) (getD-set-same es p (v p) 0 h)
-        ∙ cond-same (any (onPage p) rs) (v p)
-    go false e = ap (λ (x : ℕ). cond (any (onPage p) rs) (v p) x) (getD-set-other es (pageOf r) p (v (pageOf r)) 0 (λ q. eqb-false (pageOf r) p e (sym q)))
-
 -- an abort judges the pages of its rows anew, and no other entry changes
 pub judged-length : (remain rs : List (List ℕ)) (es : List ℕ) → length (judgedEntries remain rs es) ≡ length es
-judged-length remain rs es = ap (λ (l : List ℕ). length l) (judged-walk remain rs es) ∙ walked-length (judge remain) rs es
+judged-length remain rs es = ap (λ (l : List ℕ). length l) (judged-walk remain rs es) ∙ walked-length (λ (p : ℕ). p) (judge remain) rs es
 
 pub judged-entry : (remain rs : List (List ℕ)) (es : List ℕ) (p : ℕ) → p < length es → getD (judgedEntries remain rs es) p 0 ≡ cond (any (onPage p) rs) (cond (any (onPage p) remain) 1 0) (getD es p 0)
-judged-entry remain rs es p h = ap (λ (l : List ℕ). getD l p 0) (judged-walk remain rs es) ∙ walked-entry (judge remain) rs es p h
+judged-entry remain rs es p h = ap (λ (l : List ℕ). getD l p 0) (judged-walk remain rs es) ∙ walked-at (λ (p : ℕ). p) (judge remain) (λ p q e. e) rs es p h
 
 -- a restart makes the pages of its rows evicted, and no other entry changes
 pub evicted-length : (rs : List (List ℕ)) (es : List ℕ) → length (evictedEntries rs es) ≡ length es
-evicted-length rs es = ap (λ (l : List ℕ). length l) (evicted-walk rs es) ∙ walked-length evict rs es
+evicted-length rs es = ap (λ (l : List ℕ). length l) (evicted-walk rs es) ∙ walked-length (λ (p : ℕ). p) evict rs es
 
 pub evicted-entry : (rs : List (List ℕ)) (es : List ℕ) (p : ℕ) → p < length es → getD (evictedEntries rs es) p 0 ≡ cond (any (onPage p) rs) 1 (getD es p 0)
-evicted-entry rs es p h = ap (λ (l : List ℕ). getD l p 0) (evicted-walk rs es) ∙ walked-entry evict rs es p h
+evicted-entry rs es p h = ap (λ (l : List ℕ). getD l p 0) (evicted-walk rs es) ∙ walked-at (λ (p : ℕ). p) evict (λ p q e. e) rs es p h
 
 -- how often the order names a frame once another has left it
 without-times : (g f : ℕ) (o : List ℕ) → times g (without f o) ≡ cond (eqb g f) 0 (times g o)
@@ -213,7 +189,7 @@ seat es g r = eqb (getD es (pageOf r) 0 / 2) (g + 1)
 
 -- a frame serves no page after the walk if it served one of the walk's, else as many as before
 module _ (v : ℕ → ℕ) (small : (p : ℕ) → v p ≤ 1) (g : ℕ) where
-  walked-serving : (rs : List (List ℕ)) (es : List ℕ) → every (within (length es)) rs ≡ true → serving g es ≤ 1 → serving g (walked v rs es) ≡ cond (any (seat es g) rs) 0 (serving g es)
+  walked-serving : (rs : List (List ℕ)) (es : List ℕ) → every (within (length es)) rs ≡ true → serving g es ≤ 1 → serving g (walk v rs es) ≡ cond (any (seat es g) rs) 0 (serving g es)
   unfolding walked any every
   walked-serving [] es h m = refl
   walked-serving (r ∷ rs) es h m = go (seat es g r) refl left (walked-serving rs after all-within (few (seat es g r) left))
@@ -248,22 +224,22 @@ module _ (v : ℕ → ℕ) (small : (p : ℕ) → v p ≤ 1) (g : ℕ) where
               ∙ sym (ap (λ (i : ℕ). eqb (getD es i 0 / 2) (g + 1)) k ∙ e)
           pick false z = ap (λ (n : ℕ). eqb (n / 2) (g + 1)) (getD-set-other es p (pageOf q) (v p) 0 (eqb-false (pageOf q) p z))
 
-      go : (b : Bool) → seat es g r ≡ b → serving g after ≡ cond b 0 (serving g es) → serving g (walked v rs after) ≡ cond (any (seat after g) rs) 0 (serving g after)
-          → serving g (walked v rs after) ≡ cond (b || any (seat es g) rs) 0 (serving g es)
+      go : (b : Bool) → seat es g r ≡ b → serving g after ≡ cond b 0 (serving g es) → serving g (walk v rs after) ≡ cond (any (seat after g) rs) 0 (serving g after)
+          → serving g (walk v rs after) ≡ cond (b || any (seat es g) rs) 0 (serving g es)
       go true e k rest = rest ∙ ap (λ (n : ℕ). cond (any (seat after g) rs) 0 n) k ∙ cond-same (any (seat after g) rs) 0
       go false e k rest =
           rest
           ∙ ap (λ (n : ℕ). cond (any (seat after g) rs) 0 n) k
           ∙ ap (λ (b : Bool). cond b 0 (serving g es)) (any-same (within (length after)) (seat after g) (seat es g) (unseated e) rs all-within)
 
-walked-every : (b : ℕ → Bool) (v : ℕ → ℕ) → ((p : ℕ) → b (v p) ≡ true) → (rs : List (List ℕ)) (es : List ℕ) → every b es ≡ true → every b (walked v rs es) ≡ true
+walked-every : (b : ℕ → Bool) (v : ℕ → ℕ) → ((p : ℕ) → b (v p) ≡ true) → (rs : List (List ℕ)) (es : List ℕ) → every b es ≡ true → every b (walk v rs es) ≡ true
 unfolding walked
 walked-every b v f [] es h = h
 walked-every b v f (r ∷ rs) es h = walked-every b v f rs (set es (pageOf r) (v (pageOf r))) (every-set b es (pageOf r) (v (pageOf r)) h (f (pageOf r)))
 
 -- entries and order agree after the walk, where the order has lost just the frames of the walk's pages
 walked-seated : (v : ℕ → ℕ) → ((p : ℕ) → v p ≤ 1) → (frames : ℕ) (rs : List (List ℕ)) (es o o′ : List ℕ) → Seated frames es o → every (within (length es)) rs ≡ true
-    → every (λ (f : ℕ). ltb f frames) o′ ≡ true → ((g : ℕ) → times g o′ ≡ cond (any (seat es g) rs) 0 (times g o)) → Seated frames (walked v rs es) o′
+    → every (λ (f : ℕ). ltb f frames) o′ ≡ true → ((g : ℕ) → times g o′ ≡ cond (any (seat es g) rs) 0 (times g o)) → Seated frames (walk v rs es) o′
 walked-seated v small frames rs es o o′ s h w e =
     record {
       entries-within = walked-every (λ (d : ℕ). leb (d / 2) frames) v (λ p. le-leb (v p / 2) frames (omega (arith, small p))) rs es (s .entries-within);
@@ -272,10 +248,10 @@ walked-seated v small frames rs es o o′ s h w e =
       named = λ f k. e f ∙ ap (λ (n : ℕ). cond (any (seat es f) rs) 0 n) (s .named f k) ∙ sym (serves f k);
     }
   where
-    serves : (f : ℕ) → f < frames → serving f (walked v rs es) ≡ cond (any (seat es f) rs) 0 (serving f es)
+    serves : (f : ℕ) → f < frames → serving f (walk v rs es) ≡ cond (any (seat es f) rs) 0 (serving f es)
     serves f k = walked-serving v small f rs es h (s .once f k)
 
-    few : (f : ℕ) → f < frames → (b : Bool) → serving f (walked v rs es) ≡ cond b 0 (serving f es) → serving f (walked v rs es) ≤ 1
+    few : (f : ℕ) → f < frames → (b : Bool) → serving f (walk v rs es) ≡ cond b 0 (serving f es) → serving f (walk v rs es) ≤ 1
     few f k true q = omega arith
     few f k false q = omega (arith, q, s .once f k)
 

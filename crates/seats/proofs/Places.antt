@@ -13,8 +13,8 @@ use Rattle.order.specs.Order.{without, touched, frameFor}
 use Rattle.rules.specs.Lent.{inFrame, frameOf, isDirty, cleanIn, dirtyIn}
 use Rattle.rules.specs.Sound.{every, upTo, serving, times}
 use Rattle.rules.specs.Steps.{freedOf, freed, placed}
+use Rattle.rules.proofs.Every.{every-at, every-set, every-without}
 use Rattle.onlinecheck.proofs.Rows.{and-both}
-use Rattle.compact.proofs.Kept.{every-at, every-set, every-without}
 use Rattle.fetch.proofs.Laws.{frame-below}
 use Rattle.seats.proofs.Seated.{Seated}
 use Rattle.seats.proofs.Counting.{times-without, times-touched, serving-none, serving-cons, serving-set, serving-at, serving-freed, times-none, pigeonhole, upTo-all}
@@ -59,9 +59,6 @@ dirty-dirty f = eq-eqb (dirtyIn f % 2) 1 (omega arith)
 -- an entry that lost its frame: "clean becomes absent, dirty becomes evicted"
 pub left-none : (e : ℕ) → inFrame (e % 2) ≡ false
 left-none e = half-none (e % 2) (omega arith)
-
-pub left-dirty : (e : ℕ) → isDirty (e % 2) ≡ isDirty e
-left-dirty e = let k : e % 2 % 2 ≡ e % 2 = omega arith in ap (λ (x : ℕ). eqb x 1) k
 
 -- the entries after a page was placed in frame f
 pub placed-length : (f p : ℕ) (es : List ℕ) → length (placed f p es) ≡ length es

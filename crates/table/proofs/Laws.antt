@@ -254,6 +254,11 @@ pub zeros-table : {w : ℕ} (size : ℕ) {rs : List (List ℕ)} → Wide w rs �
 unfolding table
 zeros-table {w} size {rs} h = drop-at (joined rs) (replicate ((size - length rs) * w) 0) (length rs * w) (length-joined h)
 
+-- a table of those kept of the first n rows
+pub length-kept-table : (b : List ℕ → Bool) (n size : ℕ) (t : List ℕ) → n ≤ size → length t ≡ size * 19 → length (table 19 size (keep b (rows 19 n t 0))) ≡ size * 19
+length-kept-table b n size t h e =
+    length-table size (wide-keep b (wide-all 19 n t (omega arith))) (omega (arith, keep-length b (rows 19 n t 0), length-rows 19 n t 0))
+
 -- a list with zeros after its first n rows is the table of them
 pub canon : (w size n : ℕ) (l : List ℕ) → drop (n * w) l ≡ replicate ((size - n) * w) 0 → l ≡ table w size (rows w n l 0)
 unfolding table

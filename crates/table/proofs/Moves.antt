@@ -1,12 +1,12 @@
--- Laws of bytes written, copied and moved, and of a list with another part.
+-- Laws of bytes written, copied and moved, and of a part that is lent.
 use Prim.Native.Nat.{ℕ, zero, suc, _+_, _-_, _≤_, _<_}
 use native.Mathlib.Omega.{arith}
 use native.Mathlib.Nat.{zero-add, suc-add, not-suc-le-zero, le-of-suc-le-suc}
 use native.Mathlib.Numerals.{add-one}
 use mathlib.Core.Path.{_≡_, refl, sym, ap, _∙_}
-use mathlib.Core.List.{List, [], _∷_, _++_, append-assoc, append-nil}
-use lib.ListN.{length, take, drop, getD, set, replicate, take-append-drop, length-append, length-drop}
-use lib.Seq.{drop-drop, take-at, drop-at, take-length, drop-length, take-all, length-take-le, getD-append-add, getD-drop}
+use mathlib.Core.List.{List, [], _∷_, _++_, append-nil}
+use lib.ListN.{length, take, drop, getD, set, replicate, take-append-drop, length-drop}
+use lib.Seq.{take-length, drop-length, take-all, length-take-le, getD-append-add, getD-drop}
 use lib.ListN.{drop-of-length-le, length-set}
 use borrow.Author.Fill.{fill-more}
 use Rattle.record.specs.Part.{part, withPart}
@@ -104,31 +104,6 @@ pub lent-back : (a e k : ℕ) (l ys zs : List ℕ) → e ≡ a + k → ys ≡ zs
 lent-back a e k l ys zs h q =
     let d : e - a ≡ k = omega arith in
     ap (λ (n : ℕ). withPart a n l ys) d ∙ ap (λ (x : List ℕ). withPart a k l x) q
-
--- a list with another part from a to b: up to b, from b on, in all
-module _ (a k b : ℕ) (l x ys : List ℕ) (h : a + k ≤ length l) (q : length ys ≡ k) (n : b ≡ a + k) (e : x ≡ withPart a k l ys) where
-  front-length : length (take a l ++ ys) ≡ b
-  front-length =
-      let ha : a ≤ length l = omega arith in
-      length-append (take a l) ys ∙ ap (λ (m : ℕ). m + length ys) (length-take-le a l ha) ∙ ap (λ (m : ℕ). a + m) q ∙ sym n
-
-  apart : x ≡ take a l ++ ys ++ drop k (drop a l)
-  apart = e ∙ sym (append-assoc (take a l) ys (drop k (drop a l)))
-
-  pub with-take : take b x ≡ take a l ++ ys
-  with-take = ap (λ (z : List ℕ). take b z) apart ∙ take-at (take a l ++ ys) (drop k (drop a l)) b front-length
-
-  pub with-drop : drop b x ≡ drop b l
-  with-drop =
-      ap (λ (z : List ℕ). drop b z) apart ∙ drop-at (take a l ++ ys) (drop k (drop a l)) b front-length
-      ∙ drop-drop k a l ∙ ap (λ (m : ℕ). drop m l) (sym n)
-
-  pub with-length : length x ≡ length l
-  with-length =
-      let d : length (drop k (drop a l)) ≡ length l - a - k = length-drop k (drop a l) ∙ ap (λ (m : ℕ). m - k) (length-drop a l) in
-      let f : length (take a l ++ ys) ≡ b = front-length in
-      let g : length x ≡ length (take a l ++ ys) + length (drop k (drop a l)) = ap (λ (z : List ℕ). length z) apart ∙ length-append (take a l ++ ys) (drop k (drop a l)) in
-      omega arith
 
 pub lent-length : (a k : ℕ) (l : List ℕ) → a + k ≤ length l → length (take (a + k - a) (drop a l)) ≡ k
 lent-length a k l h =

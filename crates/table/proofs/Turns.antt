@@ -10,8 +10,9 @@ use lib.Dec.{eqb}
 use Rattle.record.specs.Part.{part, withPart}
 use Rattle.record.specs.Rows.{rowAt, rows, joined, table, consIf, keep}
 use Rattle.record.specs.Record.{pageOf, ownerOf, bodyOf, ownedBy, gone, numbered, numberRows}
+use Rattle.record.proofs.Parts.{with-take, with-drop, with-length}
 use Rattle.table.proofs.Laws.{rows-more, rows-end, rows-start, keep-rows-more, keep-rows-end, row-length, sub-mul, joined-cons, joined-rows, length-rows, drop-rows, count-start, count-turn, count-end}
-use Rattle.table.proofs.Moves.{with-take, with-drop, with-length, lent-back, lent-length}
+use Rattle.table.proofs.Moves.{lent-back, lent-length}
 
 -- a step of a count goes up by one at most
 pub step-le : (z : Bool) (n k : ℕ) → k ≡ cond z (n + 1) n → k ≤ n + 1

@@ -1,5 +1,5 @@
 -- `closing::lesser_of` meets its contract: each way out cites the law of its tests.
-use Rattle.closing.proofs.Laws.{lesser-none, lesser-old, lesser-new}
+use Rattle.record.proofs.Laws.{lesser-none, lesser-old, lesser-new}
 use Rattle.closing.proofs.lesser_of.Statement.{statement}
 use Rattle.closing.proofs.lesser_of.Tie as tie
 

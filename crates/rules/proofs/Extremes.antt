@@ -3,15 +3,16 @@ use Prim.Native.Nat.{ℕ, zero, suc, _≤_, max}
 use native.Mathlib.Omega.{arith}
 use mathlib.Core.Path.{_≡_, refl, sym, subst}
 use mathlib.Core.Logic.{_⊎_, inl, inr}
-use mathlib.Core.Bool.{Bool, true, false, _&&_, _||_}
+use mathlib.Core.Bool.{Bool, true, false, _||_}
 use mathlib.Core.List.{List, [], _∷_}
 use lib.ListN.{length}
 use lib.Dec.{eqb, leb}
 use borrow.Author.Tests.{eqb-true, eq-eqb, leb-true, leb-false, le-leb}
-use Rattle.record.specs.Rows.{keep, any, consIf}
+use Rattle.record.specs.Rows.{keep, any}
 use Rattle.record.specs.Record.{numberOf, lesser, smallest, greatest}
-use Rattle.closing.proofs.Laws.{lesser-none, lesser-old, lesser-new}
+use Rattle.record.proofs.Laws.{lesser-none, lesser-old, lesser-new}
 use Rattle.rules.specs.Sound.{every}
+use Rattle.rules.proofs.Every.{both, or-either, or-left, or-right, meet, any-wider, every-narrower}
 
 -- a row that has a number, and one whose number is at most n
 abbrev pub hasNumber : List ℕ → Bool
@@ -19,63 +20,6 @@ hasNumber r = leb 1 (numberOf r)
 
 abbrev pub numberAtMost : ℕ → List ℕ → Bool
 numberAtMost n r = leb (numberOf r) n
-
--- tests of every row, and of one
-pub both : (a b : Bool) → (a && b) ≡ true → (a ≡ true) × (b ≡ true)
-both true b h = (refl, h)
-both false b h = let z : _≡_ {A = ℕ} 0 1 = cc in absurd (omega arith)
-
--- one of those kept passes a test: that one is kept by a wider test too
-or-either : (a b : Bool) → (a || b) ≡ true → (a ≡ true) ⊎ (b ≡ true)
-or-either true b h = inl refl
-or-either false b h = inr h
-
-or-left : (a b : Bool) → a ≡ true → (a || b) ≡ true
-or-left a b h = rw h
-
-or-right : (a b : Bool) → b ≡ true → (a || b) ≡ true
-or-right true b h = refl
-or-right false b h = h
-
-module _ {A : Type 0} where
-  -- what every row passes and what some row passes meet in one row
-  pub meet : (b d : A → Bool) (l : List A) {C : Type 0} → every b l ≡ true → any d l ≡ true → ((x : A) → b x ≡ true → d x ≡ true → C) → C
-  unfolding every any
-  meet b d [] {C} h k f = let z : _≡_ {A = ℕ} 0 1 = cc in absurd (omega arith)
-  meet b d (x ∷ l) {C} h k f = go (or-either (d x) (any d l) k) (λ (e : any d l ≡ true). meet b d l (both (b x) (every b l) h .1) e f)
-    where
-      go : (d x ≡ true) ⊎ (any d l ≡ true) → (any d l ≡ true → C) → C
-      go (inl e) g = f x (both (b x) (every b l) h .0) e
-      go (inr e) g = g e
-
-  -- those that a narrower test keeps are among those that a wider one keeps
-  any-more : (x : A) (k m : List A) (t : A → Bool) (y z : Bool) → (y ≡ true → z ≡ true) → (any t k ≡ true → any t m ≡ true) → any t (consIf y x k) ≡ true → any t (consIf z x m) ≡ true
-  unfolding any
-  any-more x k m t true z g f h = rw (g refl) (go (or-either (t x) (any t k) h))
-    where
-      go : (t x ≡ true) ⊎ (any t k ≡ true) → (t x || any t m) ≡ true
-      go (inl e) = or-left (t x) (any t m) e
-      go (inr e) = or-right (t x) (any t m) (f e)
-  any-more x k m t false true g f h = or-right (t x) (any t m) (f h)
-  any-more x k m t false false g f h = f h
-
-  pub any-wider : (b d t : A → Bool) → ((x : A) → b x ≡ true → d x ≡ true) → (l : List A) → any t (keep b l) ≡ true → any t (keep d l) ≡ true
-  unfolding keep
-  any-wider b d t f [] h = h
-  any-wider b d t f (x ∷ l) h = any-more x (keep b l) (keep d l) t (b x) (d x) (f x) (any-wider b d t f l) h
-
-  every-less : (x : A) (k m : List A) (t : A → Bool) (y z : Bool) → (y ≡ true → z ≡ true) → (every t m ≡ true → every t k ≡ true) → every t (consIf z x m) ≡ true → every t (consIf y x k) ≡ true
-  unfolding every
-  every-less x k m t false false g f h = f h
-  every-less x k m t false true g f h = f (both (t x) (every t m) h .1)
-  every-less x k m t true z g f h =
-      let e = both (t x) (every t m) (rw (g refl) at h) in
-      rw (e .0) (f (e .1))
-
-  pub every-narrower : (b d t : A → Bool) → ((x : A) → b x ≡ true → d x ≡ true) → (l : List A) → every t (keep d l) ≡ true → every t (keep b l) ≡ true
-  unfolding keep
-  every-narrower b d t f [] h = h
-  every-narrower b d t f (x ∷ l) h = every-less x (keep b l) (keep d l) t (b x) (d x) (f x) (every-narrower b d t f l) h
 
 -- the smaller of two numbers
 lesser-is : (a b : ℕ) → 1 ≤ a → ((lesser a b ≡ a) × (a ≤ b)) ⊎ ((lesser a b ≡ b) × (b ≤ a))
