@@ -38,7 +38,7 @@ online-below {g} {done} {h} {s} r =
     ap (λ (n : ℕ). every (λ (q : List ℕ). ltb (pageOf q) n) (onlineOf s)) (r .durable .pages)
     ∙ ≅-every below (r .lost .online-is)
     ∙ every-append below (keep (aboveStamp (s .durable .marks)) (rowsOf g done)) (openOf h) (rows-below g done (s .durable .marks) (r .past .done-wide) (r .past .formed))
-      (formed-page (g .size) (g .pages) (openOf h) (every-imp (openRow g (h .live)) (wellFormed (g .size) (g .pages)) (λ q e. open-facts g (h .live) q e .formed) (openOf h) (r .past .open-rows)))
+    (formed-page (g .size) (g .pages) (openOf h) (every-imp (openRow g (h .live)) (wellFormed (g .size) (g .pages)) (λ q e. open-facts g (h .live) q e .formed) (openOf h) (r .past .open-rows)))
   where
     below : List ℕ → Bool
     below q = ltb (pageOf q) (g .pages)
@@ -55,19 +55,19 @@ live-ended x y lives b p q m n e = go (eqb y x) refl
 
 -- the lost part, as lists: a page that stays in its frame had no record of the owner's
 module _ (g : Ground) (done opened : List (List ℕ)) (live : ℕ → Bool) (frames : ℕ) (marks stored pool order lives entries : List ℕ) (online : List (List ℕ)) (x : ℕ) (tables : List ℕ)
-  (l : LostRight g done opened live frames marks stored pool order lives entries online) (p : 1 ≤ x) (q : x ≤ 32) where
+    (l : LostRight g done opened live frames marks stored pool order lives entries online) (p : 1 ≤ x) (q : x ≤ 32) where
   abbrev other : List ℕ → Bool
   other r = not (ownedBy x r)
 
   lost-aborted : Wide 14 done → every (λ (r : List ℕ). ltb (pageOf r) (g .pages)) online ≡ true → ((i : ℕ) → i < g .pages → getD tables (entryAt frames i) 0 ≡ getD entries i 0)
       → LostRight g done (keep other opened) (λ (y : ℕ). not (eqb y x) && live y) frames marks stored pool (framesFreed frames tables (keep (ownedBy x) online) order) (set lives (x - 1) 0)
-        (judgedEntries (keep other online) (keep (ownedBy x) online) entries) (keep other online)
+      (judgedEntries (keep other online) (keep (ownedBy x) online) entries) (keep other online)
   lost-aborted w b t =
       record {
         seated =
-          seated-abort frames rest mine entries tables order (l .seated)
-          (ap (λ (n : ℕ). every (λ (r : List ℕ). ltb (pageOf r) n) mine) (l .entries-length) ∙ every-keep (ownedBy x) (λ (r : List ℕ). ltb (pageOf r) (g .pages)) online b)
-          (λ i h. t i (omega (arith, l .entries-length)));
+            seated-abort frames rest mine entries tables order (l .seated)
+            (ap (λ (n : ℕ). every (λ (r : List ℕ). ltb (pageOf r) n) mine) (l .entries-length) ∙ every-keep (ownedBy x) (λ (r : List ℕ). ltb (pageOf r) (g .pages)) online b)
+            (λ i h. t i (omega (arith, l .entries-length)));
         entries-length = judged-length rest mine entries ∙ l .entries-length;
         lives-length = length-set lives (x - 1) 0 ∙ l .lives-length;
         lives-bits = every-set (λ (n : ℕ). leb n 1) lives (x - 1) 0 (l .lives-bits) refl;
@@ -109,9 +109,9 @@ keeps-abort {g} {done} {h} {s} x a b r =
     settle (reads-aborted s x (r .whole) (ranged (sizeOf s) (pagesOf s) (framesOf s) (roomOf s) (spanOf s) (r .durable .range) .room-most) a b (online-below r))
     (past-abort (r .past) x a) (r .durable)
     (subst (λ (o : List (List ℕ)). LostRight g done o (λ (y : ℕ). not (eqb y x) && h .live y) (framesOf s) (s .durable .marks) (s .durable .stored) (s .lost .pool)
-        (framesFreed (framesOf s) (s .lost .tables) (owned s x) (orderOf s)) (set (livesOf s) (x - 1) 0) (judgedEntries (others s x) (owned s x) (entriesOf s)) (others s x))
-      (sym (open-abort h x))
-      (lost-aborted g done (openOf h) (h .live) (framesOf s) (s .durable .marks) (s .durable .stored) (s .lost .pool) (orderOf s) (livesOf s) (entriesOf s) (onlineOf s) x (s .lost .tables)
-        (r .lost) a b (r .past .done-wide)
-        (ap (λ (n : ℕ). every (λ (q : List ℕ). ltb (pageOf q) n) (onlineOf s)) (sym (r .durable .pages)) ∙ online-below r)
-        (λ i k. entry-whole s i (r .whole) (omega (arith, r .durable .pages)))))
+    (framesFreed (framesOf s) (s .lost .tables) (owned s x) (orderOf s)) (set (livesOf s) (x - 1) 0) (judgedEntries (others s x) (owned s x) (entriesOf s)) (others s x))
+    (sym (open-abort h x))
+    (lost-aborted g done (openOf h) (h .live) (framesOf s) (s .durable .marks) (s .durable .stored) (s .lost .pool) (orderOf s) (livesOf s) (entriesOf s) (onlineOf s) x (s .lost .tables)
+    (r .lost) a b (r .past .done-wide)
+    (ap (λ (n : ℕ). every (λ (q : List ℕ). ltb (pageOf q) n) (onlineOf s)) (sym (r .durable .pages)) ∙ online-below r)
+    (λ i k. entry-whole s i (r .whole) (omega (arith, r .durable .pages)))))

@@ -89,8 +89,8 @@ module _ {g : Ground} {done opened : List (List ℕ)} {live : ℕ → Bool} {fra
           dirty = dirty-left;
           online-is = l .online-is;
           frame = λ q n j.
-            let z : getD (set entries p (e % 2)) q 0 ≡ getD entries q 0 = evicted-stays q j in
-            ap (λ (x : ℕ). pageIn (g .size) (frameOf x) pool) z ∙ l .frame q n (ap (λ (x : ℕ). inFrame x) (sym z) ∙ j);
+              let z : getD (set entries p (e % 2)) q 0 ≡ getD entries q 0 = evicted-stays q j in
+              ap (λ (x : ℕ). pageIn (g .size) (frameOf x) pool) z ∙ l .frame q n (ap (λ (x : ℕ). inFrame x) (sym z) ∙ j);
         }
 
 -- begin keeps what is right

@@ -149,9 +149,9 @@ module _ (g : Ground) (done : List (List ℕ)) (h : Past) (s : Lent) (r : Right 
   needed-after =
       ap (λ (n : ℕ). every (λ (q : List ℕ). not (above q) || leb n (numberOf q)) (rowsOf g done)) first-is
       ∙ lacked-from above (rowsOf g done) (openOf h) (r .lost .online-is) rows-committed (firstOf s + droppedBy s)
-        (dropped-below s
-        (kept-numbered above (rowsOf g done) (openOf h) (r .lost .online-is) (firstOf s) (lastOf s) (omega arith) (to-last (firstOf s) (r .durable .needed)) open-unset committed (λ q e. e))
-        (kept-from above (rowsOf g done) (openOf h) (r .lost .online-is) (firstOf s) (lastOf s) (omega arith) (to-last (firstOf s) (r .durable .needed)) open-unset committed (λ q e. e)))
+      (dropped-below s
+      (kept-numbered above (rowsOf g done) (openOf h) (r .lost .online-is) (firstOf s) (lastOf s) (omega arith) (to-last (firstOf s) (r .durable .needed)) open-unset committed (λ q e. e))
+      (kept-from above (rowsOf g done) (openOf h) (r .lost .online-is) (firstOf s) (lastOf s) (omega arith) (to-last (firstOf s) (r .durable .needed)) open-unset committed (λ q e. e)))
 
   -- a page's dirty number is none, or one of the log's
   dirty-is : (p : ℕ) → p < g .pages → dirtyOf after p ≡ smallest 0 (keep (committedOn p) (onlineOf s))
@@ -246,7 +246,7 @@ module _ (g : Ground) (done : List (List ℕ)) (h : Past) (s : Lent) (r : Right 
         entered = restamped (λ (q : List ℕ). not (leb (numberOf q) (closedOf after) && eqb (dirtyOf after (pageOf q)) 0)) entered-after;
         fits = subst (λ (l : List (List ℕ)). length l ≤ roomOf after) (sym lacked-same) (subst (λ (f : List ℕ). length (keep above (rowsOf g done)) ≤ num 4 f 12) (sym fixed-same) (r .durable .fits));
         page = λ p k. ap (λ (l : List ℕ). pageIn (g .size) p l) stored-same ∙ r .durable .page p k
-          ∙ ap (λ (l : List (List ℕ)). applied l (pageIn (g .size) p (g .start)))
+            ∙ ap (λ (l : List (List ℕ)). applied l (pageIn (g .size) p (g .start)))
             (sym (keep-same-where (pageBelow (g .pages)) (λ (q : List ℕ). onPage p q && not (aboveStamp (after .durable .marks) q)) (λ (q : List ℕ). onPage p q && not (above q)) (λ q e. ap (λ (t : Bool). onPage p q && not t) (above-same q e)) (rowsOf g done) rows-paged));
       }
 

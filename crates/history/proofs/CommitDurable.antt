@@ -71,8 +71,8 @@ module _ (a b : List ℕ → Bool) (same : (r : List ℕ) → b r ≡ a r) (old 
       ∙ every-append (λ (r : List ℕ). not (a r) || c r) old new p (every-imp c (λ (r : List ℕ). not (a r) || c r) (λ r. or-right (not (a r)) (c r)) new q)
 
 module _ {g : Ground} {done : List (List ℕ)} {h : Past} {s : Lent} (x : ℕ) (r : Right g done h s)
-  (space : loggedOf s + length (owned s x) ≤ spanOf s) (numbers : lastOf s + length (owned s x) ≤ 4294967295)
-  (formed : every (wellFormed (g .size) (g .pages)) (map bodyOf (owned s x)) ≡ true) (known : length (owned s x) ≤ length (openOf h)) where
+    (space : loggedOf s + length (owned s x) ≤ spanOf s) (numbers : lastOf s + length (owned s x) ≤ 4294967295)
+    (formed : every (wellFormed (g .size) (g .pages)) (map bodyOf (owned s x)) ≡ true) (known : length (owned s x) ≤ length (openOf h)) where
   abbrev more : List (List ℕ)
   more = map bodyOf (owned s x)
 

@@ -39,10 +39,10 @@ bodies-any p (one {r} {s} {l} {m} e h) = λ i. eqb (body-page r s e i) p || bodi
 
 -- the lost part, as lists: an owner's records `more` are numbered from k on, and no stored page has them
 module _ {g : Ground} {done opened : List (List ℕ)} {live : ℕ → Bool} {frames : ℕ} {marks stored pool order lives entries : List ℕ} {online : List (List ℕ)}
-  (l : LostRight g done opened live frames marks stored pool order lives entries online) (x k : ℕ) (low : 1 ≤ x) (high : x ≤ 32)
-  (done-wide : Wide 14 done) (open-wide : Wide 19 opened) (unsettled : every uncommitted opened ≡ true) (parted : pairs apart opened ≡ true)
-  (marks′ : List ℕ) (more : List (List ℕ)) (mine : more ≡ map bodyOf (keep (ownedBy x) opened))
-  (above : keep (aboveStamp marks′) (rowsOf g (done ++ more)) ≡ keep (aboveStamp marks) (rowsOf g done) ++ numberedFrom k more) where
+    (l : LostRight g done opened live frames marks stored pool order lives entries online) (x k : ℕ) (low : 1 ≤ x) (high : x ≤ 32)
+    (done-wide : Wide 14 done) (open-wide : Wide 19 opened) (unsettled : every uncommitted opened ≡ true) (parted : pairs apart opened ≡ true)
+    (marks′ : List ℕ) (more : List (List ℕ)) (mine : more ≡ map bodyOf (keep (ownedBy x) opened))
+    (above : keep (aboveStamp marks′) (rowsOf g (done ++ more)) ≡ keep (aboveStamp marks) (rowsOf g done) ++ numberedFrom k more) where
   abbrev others : List (List ℕ)
   others = keep (λ (r : List ℕ). not (ownedBy x r)) opened
 

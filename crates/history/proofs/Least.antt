@@ -137,7 +137,7 @@ module _ (above : List ℕ → Bool) (rows opened : List (List ℕ)) {online : L
       pub lacked-dirty : every (λ (r : List ℕ). not (above r) || leb 1 (smallest 0 (keep (committedOn (pageOf r)) online))) rows ≡ true
       lacked-dirty = kept-every above (λ (r : List ℕ). leb 1 (smallest 0 (keep (committedOn (pageOf r)) online))) rows
           (every-imp (λ (r : List ℕ). any (committedOn (pageOf r)) (keep above rows ++ opened)) (λ (r : List ℕ). leb 1 (smallest 0 (keep (committedOn (pageOf r)) online)))
-            (λ r e. le-leb 1 (smallest 0 (keep (committedOn (pageOf r)) online)) (found-least (committedOn (pageOf r)) (λ q k. and-both (eqb (pageOf q) (pageOf r)) (committed q) k .1) (≅-any (committedOn (pageOf r)) is ∙ e)))
-            (keep above rows)
-            (each-found committed (λ (r q : List ℕ). committedOn (pageOf r) q) (λ r e. and-in (eqb (pageOf r) (pageOf r)) (committed r) (eq-eqb (pageOf r) (pageOf r) refl) e) (keep above rows) (keep above rows ++ opened)
-              (λ t k. any-front t (keep above rows) opened k) (every-keep above committed rows all-committed)))
+          (λ r e. le-leb 1 (smallest 0 (keep (committedOn (pageOf r)) online)) (found-least (committedOn (pageOf r)) (λ q k. and-both (eqb (pageOf q) (pageOf r)) (committed q) k .1) (≅-any (committedOn (pageOf r)) is ∙ e)))
+          (keep above rows)
+          (each-found committed (λ (r q : List ℕ). committedOn (pageOf r) q) (λ r e. and-in (eqb (pageOf r) (pageOf r)) (committed r) (eq-eqb (pageOf r) (pageOf r) refl) e) (keep above rows) (keep above rows ++ opened)
+          (λ t k. any-front t (keep above rows) opened k) (every-keep above committed rows all-committed)))

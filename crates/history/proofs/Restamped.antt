@@ -107,7 +107,7 @@ module _ {g : Ground} {done : List (List ℕ)} {d : Durable} (r : DurableRight g
     needed-now =
         ap (λ (m : ℕ). every (λ (x : List ℕ). not (aboveStamp marks x) || leb m (numberOf x)) (rowsOf g done)) first-now
         ∙ every-two (λ (x : List ℕ). not (aboveStamp marks x) || aboveStamp (d .marks) x) (λ (x : List ℕ). not (aboveStamp (d .marks) x) || leb (firstOf (only d)) (numberOf x)) (λ (x : List ℕ). not (aboveStamp marks x) || leb (firstOf (only d)) (numberOf x))
-          (λ x. through (aboveStamp marks x) (aboveStamp (d .marks) x) (leb (firstOf (only d)) (numberOf x))) (rowsOf g done) fewer (r .needed)
+        (λ x. through (aboveStamp marks x) (aboveStamp (d .marks) x) (leb (firstOf (only d)) (numberOf x))) (rowsOf g done) fewer (r .needed)
 
     abbrev enters : Durable → List ℕ → Bool
     enters e x = not (leb (numberOf x) (closedOf (only e)) && eqb (dirtyOf (only e) (pageOf x)) 0)

@@ -155,8 +155,8 @@ keeps-restart {g} {done} {h} {s} d =
     settle (reads-restarted s (d .areas) (ranged (sizeOf s) (pagesOf s) (framesOf s) (roomOf s) (spanOf s) (d .durable .range) .room-most) (restart-fits d) wide below)
     (past-rises (d .past)) (d .durable)
     (subst (λ (o : List (List ℕ)). LostRight g done o (λ (x : ℕ). false) (framesOf s) marks (s .durable .stored) (s .lost .pool) [] (replicate 32 0) (evictedEntries (enteringAll s) (replicate (pagesOf s) 0)) (enteringAll s))
-      (sym (open-rises h))
-      (lost-risen g done (λ (x : ℕ). false) (framesOf s) (pagesOf s) marks (s .durable .stored) (s .lost .pool) (enteringAll s) is (d .durable .pages) below (λ x. refl)))
+    (sym (open-rises h))
+    (lost-risen g done (λ (x : ℕ). false) (framesOf s) (pagesOf s) marks (s .durable .stored) (s .lost .pool) (enteringAll s) is (d .durable .pages) below (λ x. refl)))
   where
     marks : List ℕ
     marks = s .durable .marks

@@ -86,12 +86,12 @@ module _ (g : Ground) (done : List (List ℕ)) (h : Past) (s : Lent) (c : Right 
       ∙ ap (λ (n : ℕ). mayRead n (pagesOf s) (s .lost .tables) (onlineOf s) room x p offset w) (size-read g done h s c)
       ∙ ap (λ (n : ℕ). mayRead (h .size) n (s .lost .tables) (onlineOf s) room x p offset w) (pages-read g done h s c)
       ∙ past-test (not (ltb p (h .pages))) (Argument Page) (λ _.
-        past-test (not (isNumber x)) (Argument Number) (λ e.
-        past-test (not (between 1 w (h .size))) (Argument Length) (λ _.
-        past-test (not (leb (offset + w) (h .size))) (Argument Place) (λ _.
-        past-test (ltb room w) ShortBuffer (λ _.
-        ap (λ (b : Bool). refuseIf (not b) NotLive (refuseIf (held (onlineOf s) x p offset w) Held Go)) (live-of x e)
-        ∙ ap (λ (b : Bool). refuseIf (not (h .live x)) NotLive (refuseIf b Held Go)) (held-read g done h s c x p offset w))))))
+      past-test (not (isNumber x)) (Argument Number) (λ e.
+      past-test (not (between 1 w (h .size))) (Argument Length) (λ _.
+      past-test (not (leb (offset + w) (h .size))) (Argument Place) (λ _.
+      past-test (ltb room w) ShortBuffer (λ _.
+      ap (λ (b : Bool). refuseIf (not b) NotLive (refuseIf (held (onlineOf s) x p offset w) Held Go)) (live-of x e)
+      ∙ ap (λ (b : Bool). refuseIf (not (h .live x)) NotLive (refuseIf b Held Go)) (held-read g done h s c x p offset w))))))
 
   pub update-said : (x p offset w kind v : ℕ) → Unless OnlineFull (judgeUpdate s x p offset w kind v) (sayUpdate h x p offset w kind v)
   unfolding judgeUpdate mayUpdate sayUpdate

@@ -35,8 +35,14 @@ module _ (g : Ground) (done : List (List ℕ)) (s : Lent) (d : DurableRight g do
   has-lengths a =
       let marks : length (s .durable .marks) ≡ 12 + 8 * pagesOf s = d .marks ∙ ap (λ (n : ℕ). 12 + 8 * n) (sym (d .pages)) in
       let stored : length (s .durable .stored) ≡ sizeOf s * pagesOf s = d .stored ∙ ap (λ (n : ℕ). n * g .pages) (sym (d .size)) ∙ ap (λ (n : ℕ). sizeOf s * n) (sym (d .pages)) in
-      rw (eq-eqb (length (s .durable .marks)) (12 + 8 * pagesOf s) marks, eq-eqb (length (s .durable .log)) (14 * spanOf s) (d .log), eq-eqb (length (s .durable .stored)) (sizeOf s * pagesOf s) stored,
-          eq-eqb (length (s .lost .tables)) (35 + framesOf s + pagesOf s) (a .tables), eq-eqb (length (s .lost .online)) (19 * roomOf s) (a .online), eq-eqb (length (s .lost .pool)) (sizeOf s * framesOf s) (a .pool))
+      rw (
+        eq-eqb (length (s .durable .marks)) (12 + 8 * pagesOf s) marks,
+        eq-eqb (length (s .durable .log)) (14 * spanOf s) (d .log),
+        eq-eqb (length (s .durable .stored)) (sizeOf s * pagesOf s) stored,
+        eq-eqb (length (s .lost .tables)) (35 + framesOf s + pagesOf s) (a .tables),
+        eq-eqb (length (s .lost .online)) (19 * roomOf s) (a .online),
+        eq-eqb (length (s .lost .pool)) (sizeOf s * framesOf s) (a .pool),
+      )
 
   few-logged : s3-logged s ≡ true
   unfolding s3-logged
@@ -114,8 +120,12 @@ open-facts g live r h =
     let d = and-both (leb 1 (ownerOf r)) (leb (ownerOf r) 32) (c .1) in
     let low : 1 ≤ ownerOf r = leb-true 1 (ownerOf r) (d .0) in
     record {
-      formed = c .0; low = low; high = leb-true (ownerOf r) 32 (d .1);
-      number = eqb-true (numberOf r) 0 (b .1); alive = a .1; owned = ne-eqb (ownerOf r) 0 (λ e. omega arith);
+      formed = c .0;
+      low = low;
+      high = leb-true (ownerOf r) 32 (d .1);
+      number = eqb-true (numberOf r) 0 (b .1);
+      alive = a .1;
+      owned = ne-eqb (ownerOf r) 0 (λ e. omega arith);
     }
 
 -- S8 of a committed record, and of an uncommitted one
@@ -262,8 +272,8 @@ module _ (g : Ground) (done : List (List ℕ)) (h : Past) (s : Lent) (x : Right 
       ap (λ (n : ℕ). every (wellFormed n (pagesOf s)) (onlineOf s)) (x .durable .size)
       ∙ ap (λ (n : ℕ). every (wellFormed (g .size) n) (onlineOf s)) (x .durable .pages)
       ∙ online-every (wellFormed (g .size) (g .pages))
-        (also (wellFormed (g .size) (g .pages)) (numberedFrom-formed (g .size) (g .pages) (g .base + 1) (x .past .done-wide) (x .past .formed)))
-        (open-every (wellFormed (g .size) (g .pages)) (λ r f. f .formed))
+      (also (wellFormed (g .size) (g .pages)) (numberedFrom-formed (g .size) (g .pages) (g .base + 1) (x .past .done-wide) (x .past .formed)))
+      (open-every (wellFormed (g .size) (g .pages)) (λ r f. f .formed))
 
   -- the live byte of a number is its place in the live set
   pub live-byte : (y : ℕ) → 1 ≤ y → y ≤ 32 → eqb (liveOf s y) 1 ≡ h .live y
@@ -279,8 +289,8 @@ module _ (g : Ground) (done : List (List ℕ)) (h : Past) (s : Lent) (x : Right 
   owners-right =
       online-every (owning s)
       (also (owning s) (done-every (owning s) (λ i p q.
-        let n : numberOf (entered (getD done i []) (g .base + 1 + i)) ≡ g .base + 1 + i = number-of i p q in
-        owning-committed s (entered (getD done i []) (g .base + 1 + i)) (entered-committed (getD done i []) (g .base + 1 + i) q) (omega (arith, n)) (omega (arith, n, x .durable .last)))))
+      let n : numberOf (entered (getD done i []) (g .base + 1 + i)) ≡ g .base + 1 + i = number-of i p q in
+      owning-committed s (entered (getD done i []) (g .base + 1 + i)) (entered-committed (getD done i []) (g .base + 1 + i) q) (omega (arith, n)) (omega (arith, n, x .durable .last)))))
       (open-every (owning s) (λ r f. owning-open s r (f .owned) (f .high) (f .number) (live-byte (ownerOf r) (f .low) (f .high) ∙ f .alive)))
 
   -- each committed record within the log's numbers is the log's record of its number
@@ -307,9 +317,9 @@ module _ (g : Ground) (done : List (List ℕ)) (h : Past) (s : Lent) (x : Right 
   online-logged =
       online-every (λ (r : List ℕ). not (committed r) || (leb (firstOf s) (numberOf r) && is-logged r))
       (every-two (λ (r : List ℕ). not (aboveStamp (s .durable .marks) r) || leb (firstOf s) (numberOf r)) (λ (r : List ℕ). not (leb (firstOf s) (numberOf r)) || is-logged r)
-        (λ (r : List ℕ). not (aboveStamp (s .durable .marks) r) || (not (committed r) || (leb (firstOf s) (numberOf r) && is-logged r)))
-        (λ r p q. in-log (aboveStamp (s .durable .marks) r) (leb (firstOf s) (numberOf r)) (is-logged r) (committed r) p q)
-        (rowsOf g done) (x .durable .needed) done-logged)
+      (λ (r : List ℕ). not (aboveStamp (s .durable .marks) r) || (not (committed r) || (leb (firstOf s) (numberOf r) && is-logged r)))
+      (λ r p q. in-log (aboveStamp (s .durable .marks) r) (leb (firstOf s) (numberOf r)) (is-logged r) (committed r) p q)
+      (rowsOf g done) (x .durable .needed) done-logged)
       (open-every (λ (r : List ℕ). not (committed r) || (leb (firstOf s) (numberOf r) && is-logged r)) (λ r f. or-left (not (committed r)) (leb (firstOf s) (numberOf r) && is-logged r) (ap not (f .owned))))
 
   online-above : s11-above-stamp s ≡ true
@@ -329,8 +339,8 @@ module _ (g : Ground) (done : List (List ℕ)) (h : Past) (s : Lent) (x : Right 
   number-once =
       ≅-pairs-true differ differ-sym (≅-sym (x .lost .online-is))
       (differ-append (keep (aboveStamp (s .durable .marks)) (rowsOf g done)) (openOf h)
-        (pairs-keep (aboveStamp (s .durable .marks)) differ (rowsOf g done) (pairs-imp (λ (a b : List ℕ). ltb (numberOf a) (numberOf b)) differ (λ a b e. differ-by a b (λ n. absurd (omega (arith, ltb-true (numberOf a) (numberOf b) e)))) (rowsOf g done) (numberedFrom-rising (g .base + 1) (x .past .done-wide) (omega (arith, x .durable .last, x .durable .bound)))))
-        (open-every (λ (r : List ℕ). eqb (numberOf r) 0) (λ r f. eq-eqb (numberOf r) 0 (f .number))))
+      (pairs-keep (aboveStamp (s .durable .marks)) differ (rowsOf g done) (pairs-imp (λ (a b : List ℕ). ltb (numberOf a) (numberOf b)) differ (λ a b e. differ-by a b (λ n. absurd (omega (arith, ltb-true (numberOf a) (numberOf b) e)))) (rowsOf g done) (numberedFrom-rising (g .base + 1) (x .past .done-wide) (omega (arith, x .durable .last, x .durable .bound)))))
+      (open-every (λ (r : List ℕ). eqb (numberOf r) 0) (λ r f. eq-eqb (numberOf r) 0 (f .number))))
 
   dirty-right : s12-dirty s ≡ true
   unfolding s12-dirty
@@ -349,5 +359,19 @@ pub right-sound : (g : Ground) (done : List (List ℕ)) (h : Past) (s : Lent) �
 unfolding sound soundLost
 right-sound g done h s x =
     and-in (soundDurable s) (soundLost s) (durable-sound g done s (x .durable) (x .past .formed) (x .whole .areas))
-    (rw (counts-within g done h s x, live-marked g done h s x, entries-right g done h s x, frames-once g done h s x, order-right g done h s x, order-clear g done h s x, online-formed g done h s x, owners-right g done h s x, online-clear g done h s x,
-      online-logged g done h s x, online-above g done h s x, number-once g done h s x, dirty-right g done h s x, online-apart g done h s x))
+    (rw (
+      counts-within g done h s x,
+      live-marked g done h s x,
+      entries-right g done h s x,
+      frames-once g done h s x,
+      order-right g done h s x,
+      order-clear g done h s x,
+      online-formed g done h s x,
+      owners-right g done h s x,
+      online-clear g done h s x,
+      online-logged g done h s x,
+      online-above g done h s x,
+      number-once g done h s x,
+      dirty-right g done h s x,
+      online-apart g done h s x,
+    ))

@@ -164,7 +164,7 @@ reads-read s p w h k q =
 
 -- update
 module _ (s : Lent) (r : List ℕ) (w : Whole s) (long : length r ≡ 19) (room : countOf s + 1 ≤ roomOf s) (most : roomOf s ≤ 512)
-  (h : length (touched (placeOf s (pageOf r)) (orderOf s)) ≤ framesOf s) (k : placeOf s (pageOf r) < framesOf s) (q : length (rebuilt s (pageOf r)) ≡ sizeOf s) where
+    (h : length (touched (placeOf s (pageOf r)) (orderOf s)) ≤ framesOf s) (k : placeOf s (pageOf r) < framesOf s) (q : length (rebuilt s (pageOf r)) ≡ sizeOf s) where
   appended : length (onlineOf s ++ (r ∷ [])) ≡ countOf s + 1
   appended = length-append (onlineOf s) (r ∷ []) ∙ ap (λ (n : ℕ). n + 1) (sym (w .count))
 

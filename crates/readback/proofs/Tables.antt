@@ -268,7 +268,6 @@ module _ {frames pages : ℕ} {t : List ℕ} {count : ℕ} {order lives entries 
         entries-read = part-outside v (35 + frames) pages (inr (omega arith)) ∙ part-outside w (35 + frames) pages (inr (omega arith)) ∙ h .entries-read;
       }
 
-
 -- the page of each row is one of the store's
 abbrev pub pagesBelow : ℕ → List (List ℕ) → Bool
 pagesBelow pages rs = every (λ (r : List ℕ). ltb (pageOf r) pages) rs

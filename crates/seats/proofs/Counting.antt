@@ -109,6 +109,7 @@ serving-freed g f (x ∷ es) =
   where
     left-out : eqb (x % 2 / 2) (g + 1) ≡ false
     left-out = ne-eqb (x % 2 / 2) (g + 1) (λ e. omega arith)
+
     go : (a c b : Bool) → eqb (x / 2) (f + 1) ≡ a → eqb g f ≡ c → eqb (x / 2) (g + 1) ≡ b → serving g (map (freed f) es) ≡ cond c 0 (serving g es) → cond (eqb (cond a (x % 2) x / 2) (g + 1)) 1 0 + serving g (map (freed f) es) ≡ cond c 0 (cond b 1 0 + serving g es)
     go true true b p q r h = rw left-out (omega arith)
     go true false true p q r h = absurd (eqb-false g f q (omega (arith, eqb-true (x / 2) (f + 1) p, eqb-true (x / 2) (g + 1) r)))

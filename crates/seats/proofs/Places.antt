@@ -257,10 +257,13 @@ module _ {frames : ℕ} {es o : List ℕ} (w : Seated frames es o) where
     where
       f : ℕ
       f = frameOf (getD es p 0)
+
       below : f < frames
       below = seated-below p h i
+
       used : serving f es ≡ 1
       used = omega (arith, serving-at f es p h (in-frame (getD es p 0) i), w .once f below)
+
       go : (g : ℕ) (b : Bool) → eqb g f ≡ b → times g o ≡ serving g es → cond b 1 (times g o) ≡ serving g es
       go g true e k = rw (eqb-true g f e) (sym used)
       go g false e k = k
@@ -277,6 +280,7 @@ module _ {frames : ℕ} {es o : List ℕ} (w : Seated frames es o) where
     where
       within : every (λ (e : ℕ). leb (e / 2) frames) (placed f p es) ≡ true
       within = placed-within frames f p es h (w .entries-within)
+
       go : (b : Bool) (n : ℕ) → n ≤ 1 → cond b 1 n ≤ 1
       go true n q = omega arith
       go false n q = q
@@ -312,12 +316,15 @@ module _ {frames : ℕ} {es o : List ℕ} (w : Seated frames es o) where
     where
       f : ℕ
       f = frameOf (getD es p 0)
+
       half : getD es p 0 / 2 ≡ f + 1
       half = in-frame (getD es p 0) i
+
       less : (g : ℕ) → serving g (set es p e) + cond (eqb (f + 1) (g + 1)) 1 0 ≡ serving g es
       less g =
           let n : eqb (e / 2) (g + 1) ≡ false = ne-eqb (e / 2) (g + 1) (λ z. omega arith) in
           omega (arith, rw (half, n) at (serving-set g es p e h))
+
       go : (g : ℕ) (b : Bool) → eqb g f ≡ b → serving g (set es p e) + cond (eqb (f + 1) (g + 1)) 1 0 ≡ serving g es → serving g es ≤ 1 → cond b 0 (serving g es) ≡ serving g (set es p e)
       go g true z k l = omega (arith, rw (eq-eqb (f + 1) (g + 1) (omega (arith, eqb-true g f z))) at k)
       go g false z k l = omega (arith, rw (ne-eqb (f + 1) (g + 1) (λ y. eqb-false g f z (omega arith))) at k)
