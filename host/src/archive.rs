@@ -1,11 +1,12 @@
 //! The proved store behind its C interface. The declarations are those of include/ventarico.h, one for one.
 //!
-//! This is the only file with `unsafe` in it. What a caller owes the store is said there: each pointer valid for its
+//! Here and in fence.rs alone is `unsafe`. What a caller owes the store is said there: each pointer valid for its
 //! length, no overlap. Both hold here because every area is a buffer of its own (areas.rs), borrowed for the call.
 //! The guard bytes around each buffer are looked at after the call by whoever made it.
 
 use crate::areas::{Areas, Lent, Reply};
-use crate::calls::{Call, Store};
+use crate::calls::{Call, Store, CALL_NAMES};
+use crate::fence::{Fenced, Side, Slice};
 
 /// Declares a call: for each of the seven areas whether it is const or mut, then what else the call takes.
 macro_rules! declare {
@@ -19,6 +20,22 @@ macro_rules! declare {
                 pool: *$pool u8, pool_len: usize, $($more: $kind),*
             ) -> Reply;)*
         }
+
+        /// Which areas each call is lent for writing: those that are mut above.
+        const MUT: &[(&str, [bool; 7])] = &[$((
+            stringify!($name),
+            [is_mut!($fixed), is_mut!($marks), is_mut!($log), is_mut!($stored), is_mut!($tables), is_mut!($online),
+             is_mut!($pool)],
+        )),*];
+    };
+}
+
+macro_rules! is_mut {
+    (const) => {
+        false
+    };
+    (mut) => {
+        true
     };
 }
 
@@ -43,8 +60,22 @@ declare! {
 #[derive(Clone)]
 pub struct Archive;
 
+impl Archive {
+    /// The same store on slices between fences.
+    pub fn fenced(side: Side) -> Fenced {
+        // Safe: each slice stands in a room of its own.
+        Fenced::new(side, |call, slices| unsafe { call_on(call, slices) }, writes)
+    }
+}
+
+fn writes(call: &Call) -> [bool; 7] {
+    let name = CALL_NAMES[call.kind()];
+    let found = MUT.iter().find(|(declared, _)| declared.strip_prefix("ventarico_") == Some(name));
+    found.expect("every call is declared above").1
+}
+
 /// A slice as C sees it. An empty one is NULL: the header allows it, so it is tried.
-fn lend(slice: &mut [u8]) -> (*mut u8, usize) {
+fn lend(slice: &mut [u8]) -> Slice {
     let start = if slice.is_empty() { std::ptr::null_mut() } else { slice.as_mut_ptr() };
     (start, slice.len())
 }
@@ -52,36 +83,39 @@ fn lend(slice: &mut [u8]) -> (*mut u8, usize) {
 impl Store for Archive {
     fn call(&mut self, areas: &mut Areas, call: &Call, buffer: &mut Lent) -> Reply {
         let [fixed, marks, log, stored, tables, online, pool] = areas.each_mut().map(|area| lend(area));
-        let buffer = lend(buffer);
-        macro_rules! with_areas {
-            ($name:ident($($more:expr),*)) => {
-                // Safe: seven buffers and read's, each its own, all borrowed until the call has returned.
-                unsafe {
-                    $name(
-                        fixed.0, fixed.1, marks.0, marks.1, log.0, log.1, stored.0, stored.1,
-                        tables.0, tables.1, online.0, online.1, pool.0, pool.1, $($more),*
-                    )
-                }
-            };
+        // Safe: seven buffers and read's, each its own, all borrowed until the call has returned.
+        unsafe { call_on(call, [fixed, marks, log, stored, tables, online, pool, lend(buffer)]) }
+    }
+}
+
+/// Makes the call on the seven areas and read's buffer. Each slice must be valid, and none may overlap another.
+unsafe fn call_on(call: &Call, slices: [Slice; 8]) -> Reply {
+    let [fixed, marks, log, stored, tables, online, pool, buffer] = slices;
+    macro_rules! with_areas {
+        ($name:ident($($more:expr),*)) => {
+            $name(
+                fixed.0, fixed.1, marks.0, marks.1, log.0, log.1, stored.0, stored.1,
+                tables.0, tables.1, online.0, online.1, pool.0, pool.1, $($more),*
+            )
+        };
+    }
+    match *call {
+        Call::Format { sizes: s, last } => {
+            with_areas!(ventarico_format(s.page_size, s.pages, s.frames, s.online_size, s.log_size, last))
         }
-        match *call {
-            Call::Format { sizes: s, last } => {
-                with_areas!(ventarico_format(s.page_size, s.pages, s.frames, s.online_size, s.log_size, last))
-            }
-            Call::Begin { number } => with_areas!(ventarico_begin(number)),
-            Call::Read { number, page, offset, length, .. } => {
-                with_areas!(ventarico_read(buffer.0, buffer.1, number, page, offset, length))
-            }
-            Call::Update { number, page, offset, length, kind, value } => {
-                with_areas!(ventarico_update(number, page, offset, length, kind, value))
-            }
-            Call::Commit { number } => with_areas!(ventarico_commit(number)),
-            Call::Abort { number } => with_areas!(ventarico_abort(number)),
-            Call::Evict { page } => with_areas!(ventarico_evict(page)),
-            Call::Compact { page, min_del, max_age } => with_areas!(ventarico_compact(page, min_del, max_age)),
-            Call::Close => with_areas!(ventarico_close()),
-            Call::Checkpoint { min_del, max_age } => with_areas!(ventarico_checkpoint(min_del, max_age)),
-            Call::Restart => with_areas!(ventarico_restart()),
+        Call::Begin { number } => with_areas!(ventarico_begin(number)),
+        Call::Read { number, page, offset, length, .. } => {
+            with_areas!(ventarico_read(buffer.0, buffer.1, number, page, offset, length))
         }
+        Call::Update { number, page, offset, length, kind, value } => {
+            with_areas!(ventarico_update(number, page, offset, length, kind, value))
+        }
+        Call::Commit { number } => with_areas!(ventarico_commit(number)),
+        Call::Abort { number } => with_areas!(ventarico_abort(number)),
+        Call::Evict { page } => with_areas!(ventarico_evict(page)),
+        Call::Compact { page, min_del, max_age } => with_areas!(ventarico_compact(page, min_del, max_age)),
+        Call::Close => with_areas!(ventarico_close()),
+        Call::Checkpoint { min_del, max_age } => with_areas!(ventarico_checkpoint(min_del, max_age)),
+        Call::Restart => with_areas!(ventarico_restart()),
     }
 }

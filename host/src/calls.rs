@@ -87,15 +87,28 @@ pub trait Store {
     fn call(&mut self, areas: &mut Areas, call: &Call, buffer: &mut Lent) -> Reply;
 
     /// The first `steps` steps of a checkpoint, for a power loss inside it. A store that cannot be stopped inside its
-    /// checkpoint does the same steps as single calls, which document 01 says is the same thing.
-    fn part(&mut self, areas: &mut Areas, min_del: u32, max_age: u32, steps: u32) {
+    /// checkpoint does the same steps as single calls, which document 01 says is the same thing. Gives the sum of the
+    /// answers, or the first refusal.
+    fn part(&mut self, areas: &mut Areas, min_del: u32, max_age: u32, steps: u32) -> Reply {
         let pages = areas.sizes().pages;
-        for page in 0..pages.min(steps) {
-            self.call(areas, &Call::Compact { page, min_del, max_age }, &mut Lent::zeros(0));
+        let mut sum = Reply::default();
+        for step in 0..steps.min(pages.saturating_add(1)) {
+            let page = self.page_at(step, pages);
+            let call = if step < pages { Call::Compact { page, min_del, max_age } } else { Call::Close };
+            let reply = self.call(areas, &call, &mut Lent::zeros(0));
+            if !reply.accepted() {
+                return reply;
+            }
+            sum.reads += reply.reads;
+            sum.writes += reply.writes;
+            sum.logs += reply.logs;
         }
-        if steps > pages {
-            self.call(areas, &Call::Close, &mut Lent::zeros(0));
-        }
+        sum
+    }
+
+    /// The page that this step of a checkpoint is about.
+    fn page_at(&self, step: u32, _pages: u32) -> u32 {
+        step
     }
 }
 

@@ -3,6 +3,7 @@
 
 use crate::areas::{get4, Areas, Reply};
 use crate::calls::{Call, CALL_NAMES};
+use crate::machine::Fill;
 use crate::record::Record;
 use std::collections::BTreeMap;
 
@@ -42,6 +43,47 @@ fn unreachable(call: usize, code: u32) -> Option<&'static str> {
     }
 }
 
+/// When the power goes: after a durable write, after a call that made none, inside a checkpoint.
+#[derive(Clone, Copy)]
+pub enum Moment {
+    Formatted,
+    Committed,
+    Compacted,
+    Closed,
+    Checkpointed,
+    NothingWritten,
+    BeforeFirstStep,
+    BetweenPages,
+    BeforeClose,
+    AfterClose,
+}
+
+const MOMENTS: [&str; 10] = [
+    "after a format",
+    "after a commit",
+    "after a compaction",
+    "after a close",
+    "after a checkpoint",
+    "after a call that wrote nothing durable",
+    "in a checkpoint, before its first step",
+    "in a checkpoint, between two pages",
+    "in a checkpoint, before its close",
+    "in a checkpoint, after its close",
+];
+
+impl Moment {
+    pub fn after(call: &Call, reply: &Reply) -> Moment {
+        match call {
+            Call::Format { .. } if reply.accepted() => Moment::Formatted,
+            _ if reply.writes + reply.logs == 0 => Moment::NothingWritten,
+            Call::Commit { .. } => Moment::Committed,
+            Call::Compact { .. } => Moment::Compacted,
+            Call::Close => Moment::Closed,
+            _ => Moment::Checkpointed,
+        }
+    }
+}
+
 /// Situations that a reachable store shows.
 const SITUATIONS: &[&str] = &[
     "abort: no record",
@@ -49,6 +91,9 @@ const SITUATIONS: &[&str] = &[
     "abort: page evicted, records remain",
     "abort: page in a frame, none remains",
     "abort: page in a frame, records remain",
+    "begin: number of the commit just before, whose records are online",
+    "begin: number that the call before has ended",
+    "checkpoint: several open transactions have records",
     "close: drops all",
     "close: drops none",
     "close: drops some",
@@ -84,19 +129,13 @@ const SITUATIONS: &[&str] = &[
     "format: page size 512",
     "format: smallest of everything",
     "format: largest of everything",
-    "loss: garbage",
-    "loss: in a checkpoint, after its close",
-    "loss: in a checkpoint, before its close",
-    "loss: in a checkpoint, before its first step",
-    "loss: in a checkpoint, between two pages",
-    "loss: old bytes",
-    "loss: zeros",
     "restart: nothing enters",
     "restart: online table comes to its end",
     "restart: passed over by its stamp alone",
     "restart: record enters",
     "restart: record up to K enters",
     "restart: transactions were live",
+    "restart: without a loss",
     "update: refused 7 at 512 records",
     "update: refused 7, page in no frame",
 ];
@@ -108,12 +147,17 @@ pub struct Coverage {
     counts: bool,
     cells: [[[u64; ANSWERS]; 11]; 2],
     situations: BTreeMap<&'static str, u64>,
+    /// Power losses, by the moment and by what the lost part holds then.
+    losses: [[u64; 3]; MOMENTS.len()],
+    /// The number that the call before has ended, and whether it left records online.
+    ended: Option<(u32, bool)>,
 }
 
 impl Coverage {
     pub fn new() -> Coverage {
         let situations = SITUATIONS.iter().chain(TAMPERED).map(|name| (*name, 0)).collect();
-        Coverage { counts: true, cells: [[[0; ANSWERS]; 11]; 2], situations }
+        let losses = [[0; 3]; MOMENTS.len()];
+        Coverage { counts: true, cells: [[[0; ANSWERS]; 11]; 2], situations, losses, ended: None }
     }
 
     /// For runs that do not count: of wrong stores, and again of a session that failed.
@@ -133,6 +177,15 @@ impl Coverage {
         *self.situations.get_mut(situation).expect("every situation is in the lists above") += 1;
     }
 
+    pub fn lost(&mut self, moment: Moment, fill: Fill) {
+        let holds = match fill {
+            Fill::Zeros => 0,
+            Fill::Old => 1,
+            Fill::Garbage(_) => 2,
+        };
+        self.losses[moment as usize][holds] += u64::from(self.counts);
+    }
+
     /// Counts the situations that the store before the call and the answer make.
     pub fn judge(&mut self, before: &Glance, origin: Origin, call: &Call, reply: &Reply, after: &Areas) {
         if !self.counts {
@@ -145,7 +198,20 @@ impl Coverage {
             }
             return;
         }
+        let ended = self.ended.take();
         match (call, reply.code) {
+            (Call::Begin { number }, 0) => match ended {
+                Some((last, true)) if last == *number => {
+                    self.saw("begin: number of the commit just before, whose records are online");
+                }
+                Some((last, false)) if last == *number => self.saw("begin: number that the call before has ended"),
+                _ => (),
+            },
+            (Call::Checkpoint { .. }, 0) => {
+                if before.several_owners {
+                    self.saw("checkpoint: several open transactions have records");
+                }
+            }
             (Call::Update { .. }, 7) => {
                 if !before.in_frame {
                     self.saw("update: refused 7, page in no frame");
@@ -175,7 +241,8 @@ impl Coverage {
                     self.saw("fetch: free frame, page absent");
                 }
             }
-            (Call::Commit { .. }, _) => {
+            (Call::Commit { number }, _) => {
+                self.ended = Some((*number, before.own > 0));
                 self.saw(match before.own {
                     0 => "commit: no record",
                     1 => "commit: one record",
@@ -191,7 +258,8 @@ impl Coverage {
                     self.saw("commit: log comes to its end");
                 }
             }
-            (Call::Abort { .. }, _) => {
+            (Call::Abort { number }, _) => {
+                self.ended = Some((*number, false));
                 if before.own == 0 {
                     self.saw("abort: no record");
                 }
@@ -258,7 +326,6 @@ impl Coverage {
                     self.saw("format: L lowered");
                 }
             }
-            _ => (),
         }
     }
 
@@ -307,9 +374,17 @@ impl Coverage {
                 }
             }
         }
+        println!("\npower losses: what the lost part holds");
+        println!("{:<50}{:>10}{:>10}{:>10}", "", "zeros", "old bytes", "garbage");
+        for (moment, row) in MOMENTS.iter().zip(self.losses) {
+            println!("    {moment:<46}{:>10}{:>10}{:>10}", row[0], row[1], row[2]);
+            if row.contains(&0) {
+                wrong.push(format!("a power loss was never tried {moment}, or not with each filling; run more calls"));
+            }
+        }
         println!("\nsituations:");
         for (name, count) in &self.situations {
-            println!("    {name:<50}{count:>10}");
+            println!("    {name:<66}{count:>10}");
             if *count == 0 {
                 wrong.push(format!("situation never seen: {name}; run more calls"));
             }
@@ -331,6 +406,7 @@ pub struct Glance {
     uncommitted: u32,
     own: u32,
     own_apart: bool,
+    several_owners: bool,
     own_pages: Vec<(u32, bool)>,
     was_live: bool,
     by_stamp: bool,
@@ -384,6 +460,11 @@ impl Glance {
                         gap = true;
                     }
                 }
+            }
+            Call::Checkpoint { .. } => {
+                let mut owners = a.online_rows().map(|row| row[14]).filter(|&owner| owner != 0);
+                let first = owners.next();
+                g.several_owners = owners.any(|owner| Some(owner) != first);
             }
             Call::Restart => {
                 g.was_live = a.tables[3..35].contains(&1);

@@ -35,7 +35,7 @@ const fn durable(clause: Clause, name: &'static str, strike: fn(&mut Areas, &mut
     Wound { clause, name, durable: true, strike }
 }
 
-/// Every clause but S-params and S-lengths, which have runs of their own below.
+/// Every clause but S1 and S2, which have runs of their own below.
 const WOUNDS: &[Wound] = &[
     durable(Clause::Counts, "n one past the log", |a, _| {
         let size = a.sizes().log_size;
@@ -137,22 +137,6 @@ const WOUNDS: &[Wound] = &[
     lost(Clause::Record, "online value too large for its length", |a, random| {
         edit_online(a, random, |row| uncommitted(row) && row[4] < 8, |row| row[6 + usize::from(row[4])] = 1)
     }),
-    lost(Clause::Record, "owner 33", |a, random| edit_online(a, random, uncommitted, |row| row[14] = 33)),
-    lost(Clause::Record, "owner 255", |a, random| edit_online(a, random, uncommitted, |row| row[14] = 255)),
-    lost(Clause::Record, "uncommitted with a number", |a, random| {
-        edit_online(a, random, uncommitted, |row| row[15] = 1)
-    }),
-    lost(Clause::Record, "committed with an owner", |a, random| {
-        a.tables[3 + 6] = 1;
-        edit_online(a, random, committed, |row| row[14] = 7)
-    }),
-    lost(Clause::Record, "neither owner nor number", |a, random| {
-        edit_online(a, random, |_| true, |row| row[14..19].fill(0))
-    }),
-    lost(Clause::Record, "number L + 1", |a, random| {
-        let Some(number) = a.last().checked_add(1) else { return false };
-        edit_online(a, random, committed, |row| put4(row, 15, number))
-    }),
     lost(Clause::Record, "a row of zeros inside the count", |a, _| {
         let count = a.online_count();
         put2(&mut a.tables, 0, count as u16 + 1);
@@ -192,7 +176,23 @@ const WOUNDS: &[Wound] = &[
         put4(&mut a.marks, 8, logged + 1);
         true
     }),
-    lost(Clause::OwnerLive, "an owner not live", |a, random| {
+    lost(Clause::Owner, "owner 33", |a, random| edit_online(a, random, uncommitted, |row| row[14] = 33)),
+    lost(Clause::Owner, "owner 255", |a, random| edit_online(a, random, uncommitted, |row| row[14] = 255)),
+    lost(Clause::Owner, "uncommitted with a number", |a, random| {
+        edit_online(a, random, uncommitted, |row| row[15] = 1)
+    }),
+    lost(Clause::Owner, "committed with an owner", |a, random| {
+        a.tables[3 + 6] = 1;
+        edit_online(a, random, committed, |row| row[14] = 7)
+    }),
+    lost(Clause::Owner, "neither owner nor number", |a, random| {
+        edit_online(a, random, |_| true, |row| row[14..19].fill(0))
+    }),
+    lost(Clause::Owner, "number L + 1", |a, random| {
+        let Some(number) = a.last().checked_add(1) else { return false };
+        edit_online(a, random, committed, |row| put4(row, 15, number))
+    }),
+    lost(Clause::Owner, "an owner not live", |a, random| {
         let Some(row) = row_with(a, random, uncommitted) else { return false };
         let owner = usize::from(a.online[ONLINE_ROW * row + 14]);
         a.tables[2 + owner.min(32)] = 0;
@@ -552,11 +552,14 @@ fn fresh(sizes: &Sizes, last: u32) -> Areas {
     a
 }
 
-/// The damage runs. Gives how many passed and failed: a wound, a length, a size, a mixture each counts as one.
-pub fn run<S: Store + Clone>(store: &S, seed: u64, coverage: &mut Coverage) -> (u64, u64) {
+/// The damage runs, so many percent of what a gate wants. Gives how many passed and failed: a wound, a length, a size,
+/// a mixture each counts as one.
+pub fn run<S: Store + Clone>(store: &S, seed: u64, percent: u64, coverage: &mut Coverage) -> (u64, u64) {
     let mut random = Random::new(seed);
     println!("  seed {seed}");
-    let stores = sound_stores(&mut random, 600);
+    let some = |count: u64| (count * percent).div_ceil(100);
+    // However little is asked for, there must be a place for every wound.
+    let stores = sound_stores(&mut random, some(600).max(150) as usize);
     let mut run = Run { store: store.clone(), random, coverage, calls: 0, failed: 0, quiet: false };
     let (mut passed, mut failed) = (0, 0);
     let mut progress = Progress::new("damage");
@@ -568,7 +571,7 @@ pub fn run<S: Store + Clone>(store: &S, seed: u64, coverage: &mut Coverage) -> (
 
     for (i, wound) in WOUNDS.iter().enumerate() {
         let before = run.failed;
-        let hits = strike(&mut run, wound, &stores, 8);
+        let hits = strike(&mut run, wound, &stores, some(8));
         progress.tell(|| format!("{} of {} wounds, {} calls", i + 1, WOUNDS.len(), run.calls));
         if hits == 0 {
             println!("  FAILED  {}: {}: no store has a place for it; add stores", wound.clause.label(), wound.name);
@@ -581,25 +584,34 @@ pub fn run<S: Store + Clone>(store: &S, seed: u64, coverage: &mut Coverage) -> (
     let before = (run.failed, run.calls);
     let parts = sizes_out_of_range(&mut run);
     tally(&mut run, before.0, parts);
-    println!("  {parts} sizes out of range (S-params): {} calls", run.calls - before.1);
+    println!("  {parts} sizes out of range (S1): {} calls", run.calls - before.1);
 
     let before = (run.failed, run.calls);
-    let parts = wrong_lengths(&mut run, &stores);
+    let parts = wrong_lengths(&mut run, &stores[..some(12) as usize]);
     tally(&mut run, before.0, parts);
-    println!("  {parts} wrong lengths (S-lengths): {} calls", run.calls - before.1);
+    println!("  {parts} wrong lengths (S2): {} calls", run.calls - before.1);
 
     let before = (run.failed, run.calls);
-    let parts = several(&mut run, &stores, 1500);
+    let (parts, without) = two_clauses(&mut run, &stores);
+    for (one, two) in &without {
+        println!("  FAILED  {} with {}: no store has a place for both; add stores", one.label(), two.label());
+        run.failed += 1;
+    }
+    tally(&mut run, before.0, parts);
+    println!("  {parts} pairs of clauses, both broken: {} calls", run.calls - before.1);
+
+    let before = (run.failed, run.calls);
+    let parts = several(&mut run, &stores, some(1500));
     tally(&mut run, before.0, parts);
     println!("  {parts} stores with several wounds: {} calls", run.calls - before.1);
 
     let before = (run.failed, run.calls);
-    let parts = random_bytes(&mut run, &stores, 30_000, &mut progress);
+    let parts = random_bytes(&mut run, &stores, some(30_000), &mut progress);
     tally(&mut run, before.0, parts);
     println!("  {parts} stores with random bytes changed");
 
     let before = run.failed;
-    let parts = garbage(&mut run, &stores);
+    let parts = garbage(&mut run, &stores[..some(100) as usize]);
     tally(&mut run, before, parts);
     println!("  {parts} stores full of garbage");
     if failed > 0 {
@@ -616,7 +628,7 @@ pub fn catches<S: Store + Clone>(store: &S, clause: Clause, seed: u64) -> bool {
     let mut run = Run { store: store.clone(), random, coverage: &mut coverage, calls: 0, failed: 0, quiet: true };
     match clause {
         Clause::Params => drop(sizes_out_of_range(&mut run)),
-        Clause::Lengths => drop(wrong_lengths(&mut run, &stores)),
+        Clause::Lengths => drop(wrong_lengths(&mut run, &stores[..12])),
         _ => {
             for wound in WOUNDS.iter().filter(|wound| wound.clause == clause) {
                 strike(&mut run, wound, &stores, 3);
@@ -667,14 +679,14 @@ fn sizes_out_of_range<S: Store>(run: &mut Run<S>) -> u64 {
         Sizes { pages: 0, frames: 0, online_size: 0, log_size: 0, page_size: 0 },
     ];
     for sizes in odd {
-        run.every_call(&fresh(&sizes, 7), sizes, Some(true), &format!("S-params: {sizes:?}"));
+        run.every_call(&fresh(&sizes, 7), sizes, Some(true), &format!("S1: {sizes:?}"));
         parts += 1;
     }
     for field in 0..5 {
         for value in [0x8000_0000, u32::MAX] {
             let mut a = fresh(&sound, 7);
             put4(&mut a.fixed, 4 * field, value);
-            run.every_call(&a, a.sizes(), Some(true), &format!("S-params: field {field} is {value}"));
+            run.every_call(&a, a.sizes(), Some(true), &format!("S1: field {field} is {value}"));
             parts += 1;
         }
     }
@@ -686,7 +698,7 @@ fn wrong_lengths<S: Store>(run: &mut Run<S>, stores: &[Areas]) -> u64 {
     let largest = Sizes { page_size: 512, pages: 1024, frames: 64, online_size: 512, log_size: 2048 };
     let largest = fresh(&largest, 7);
     let mut parts = 0;
-    for store in stores.iter().take(12).chain([&largest]) {
+    for store in stores.iter().chain([&largest]) {
         let sizes = store.sizes();
         for (area, name) in AREA_NAMES.iter().enumerate() {
             let length = store.each()[area].len();
@@ -694,12 +706,59 @@ fn wrong_lengths<S: Store>(run: &mut Run<S>, stores: &[Areas]) -> u64 {
             for changed in [0, length - 1, length + 1, length - row, length + row, 2 * length] {
                 let mut a = store.clone();
                 a.each_mut()[area].set_length(changed);
-                run.every_call(&a, sizes, Some(true), &format!("S-lengths: {name} of {changed} bytes, not {length}"));
+                run.every_call(&a, sizes, Some(true), &format!("S2: {name} of {changed} bytes, not {length}"));
                 parts += 1;
             }
         }
     }
     parts
+}
+
+/// Every two clauses broken on one store. Gives how many pairs there are, and those that no store had a place for.
+fn two_clauses<S: Store>(run: &mut Run<S>, stores: &[Areas]) -> (u64, Vec<(Clause, Clause)>) {
+    let (mut parts, mut without) = (0, Vec::new());
+    for (i, (one, _)) in Clause::ALL.into_iter().enumerate() {
+        for (two, _) in Clause::ALL.into_iter().skip(i + 1) {
+            // The earlier clause last: after a wrong count or length there are no rows to look at.
+            let broken = stores.iter().find_map(|store| {
+                let mut a = store.clone();
+                let broke_two = break_clause(&mut a, two, &mut run.random) && sound::broken(&a).has(two);
+                let struck_one = broke_two && break_clause(&mut a, one, &mut run.random);
+                // With n above L the check looks no further.
+                (struck_one && (sound::broken(&a).has(one) || two == Clause::NLeL)).then_some(a)
+            });
+            parts += 1;
+            let Some(a) = broken else {
+                without.push((one, two));
+                continue;
+            };
+            let durable = !sound::broken_durable(&a).none();
+            run.every_call(&a, a.sizes(), Some(durable), &format!("{} with {}", one.label(), two.label()));
+        }
+    }
+    (parts, without)
+}
+
+/// Breaks the clause by one of its wounds. False if this store has no place for any.
+fn break_clause(a: &mut Areas, clause: Clause, random: &mut Random) -> bool {
+    match clause {
+        Clause::Params => {
+            let value = random.pick(&[0, 5000, u32::MAX]);
+            put4(&mut a.fixed, 4 * random.below(5) as usize, value);
+            true
+        }
+        Clause::Lengths => {
+            let area = &mut a.each_mut()[random.between(1, 6) as usize];
+            let length = area.len();
+            area.set_length(random.pick(&[0, length - 1, length + 1]));
+            true
+        }
+        _ => {
+            let wounds: Vec<_> = WOUNDS.iter().filter(|wound| wound.clause == clause).collect();
+            let first = random.below(wounds.len() as u32) as usize;
+            (0..wounds.len()).any(|i| (wounds[(first + i) % wounds.len()].strike)(a, random))
+        }
+    }
 }
 
 /// Two to four wounds on one store.
@@ -759,7 +818,7 @@ fn random_bytes<S: Store>(run: &mut Run<S>, stores: &[Areas], wanted: u64, progr
 /// Whole areas of garbage: all of them, the durable part, the lost part.
 fn garbage<S: Store>(run: &mut Run<S>, stores: &[Areas]) -> u64 {
     let mut parts = 0;
-    for store in stores.iter().take(100) {
+    for store in stores {
         for which in [&[0, 1, 2, 3, 4, 5, 6][..], &[1, 2, 3], &[1], &[2], &[4, 5, 6], &[4], &[5]] {
             let mut a = store.clone();
             which.iter().for_each(|&area| run.random.fill(a.each_mut()[area]));

@@ -7,8 +7,9 @@
 
 use crate::areas::{Areas, Reply, Sizes, AREA_NAMES};
 use crate::calls::{Call, Store};
-use crate::coverage::{Coverage, Glance, Origin};
+use crate::coverage::{Coverage, Glance, Moment, Origin};
 use crate::history::History;
+use crate::progress::Progress;
 use crate::random::Random;
 use crate::sound;
 use crate::states;
@@ -98,6 +99,9 @@ pub struct Machine<S> {
     right: Areas,
     history: Option<History>,
     power: Power,
+    /// When a power loss would fall.
+    moment: Moment,
+    /// Calls judged whole, each by itself.
     pub calls: u64,
 }
 
@@ -110,6 +114,7 @@ impl<S: Store + Clone> Machine<S> {
             right: Areas::none(),
             history: None,
             power: Power::Blank,
+            moment: Moment::NothingWritten,
             calls: 0,
         }
     }
@@ -136,7 +141,7 @@ impl<S: Store + Clone> Machine<S> {
             Step::Loss { fill } => self.lose(*fill, coverage),
             Step::LossInCheckpoint { min_del, max_age, steps, fill } => {
                 if self.power == Power::Up && (!self.judges.wild || sound::broken(&self.areas).none()) {
-                    self.part(*min_del, *max_age, *steps, coverage)?;
+                    self.part(*min_del, *max_age, *steps)?;
                     self.lose(*fill, coverage);
                 }
             }
@@ -177,6 +182,7 @@ impl<S: Store + Clone> Machine<S> {
         let glance = Glance::at(&self.areas, call, readable, coverage);
         // A history starts from the pages before the format: a format that changes them is caught.
         let start = matches!(call, Call::Format { .. }).then(|| self.areas.stored.clone());
+        let without_loss = *call == Call::Restart && self.power == Power::Up;
         let mut buffer = call.buffer();
         let reply = self.store.call(&mut self.areas, call, &mut buffer);
         self.calls += 1;
@@ -212,32 +218,36 @@ impl<S: Store + Clone> Machine<S> {
             }
         }
         coverage.judge(&glance, origin, call, &reply, &self.areas);
+        if without_loss && origin == Origin::Reachable {
+            coverage.saw("restart: without a loss");
+        }
+        self.moment = Moment::after(call, &reply);
         Ok(reply)
     }
 
-    /// The first steps of a checkpoint, judged by what they leave.
-    fn part(&mut self, min_del: u32, max_age: u32, steps: u32, coverage: &mut Coverage) -> Result<(), String> {
+    /// The first steps of a checkpoint, judged by the sum of their answers and by what they leave.
+    fn part(&mut self, min_del: u32, max_age: u32, steps: u32) -> Result<(), String> {
         let pages = self.areas.sizes().pages;
-        self.store.part(&mut self.areas, min_del, max_age, steps);
-        self.calls += u64::from(steps.min(pages + 1));
+        let reply = self.store.part(&mut self.areas, min_del, max_age, steps);
         if let Some(area) = self.areas.stray_write() {
             return Err(format!("a byte beside {area} was written"));
         }
         if self.judges.twin {
-            Twin.part(&mut self.right, min_del, max_age, steps);
+            let right = Twin.part(&mut self.right, min_del, max_age, steps);
+            if reply != right {
+                return Err(format!("expected {right} in sum, got {reply}"));
+            }
             self.compare()?;
         }
         if let Some(history) = &self.history {
             history.stored_pages(&self.areas).map_err(|why| format!("history: {why}"))?;
         }
-        if !self.judges.wild {
-            coverage.saw(match steps {
-                0 => "loss: in a checkpoint, before its first step",
-                _ if steps < pages => "loss: in a checkpoint, between two pages",
-                _ if steps == pages => "loss: in a checkpoint, before its close",
-                _ => "loss: in a checkpoint, after its close",
-            });
-        }
+        self.moment = match steps {
+            0 => Moment::BeforeFirstStep,
+            _ if steps < pages => Moment::BetweenPages,
+            _ if steps == pages => Moment::BeforeClose,
+            _ => Moment::AfterClose,
+        };
         Ok(())
     }
 
@@ -253,13 +263,9 @@ impl<S: Store + Clone> Machine<S> {
         lose(&mut self.right, fill);
         if self.power == Power::Up {
             self.power = Power::Lost;
-        }
-        if !self.judges.wild {
-            coverage.saw(match fill {
-                Fill::Zeros => "loss: zeros",
-                Fill::Old => "loss: old bytes",
-                Fill::Garbage(_) => "loss: garbage",
-            });
+            if !self.judges.wild {
+                coverage.lost(self.moment, fill);
+            }
         }
     }
 }
@@ -292,6 +298,7 @@ pub fn replay<S: Store + Clone>(store: &S, judges: Judges, steps: &[Step]) -> Op
 /// Drops steps, many at a time and then one by one, as long as `failing` still names a step that fails.
 pub fn cut_down<T: Clone>(mut steps: Vec<T>, patience: Duration, failing: impl Fn(&[T]) -> Option<usize>) -> Vec<T> {
     let started = Instant::now();
+    let mut progress = Progress::new("cutting down");
     let mut chunk = steps.len().max(1);
     loop {
         let before = steps.len();
@@ -306,6 +313,7 @@ pub fn cut_down<T: Clone>(mut steps: Vec<T>, patience: Duration, failing: impl F
                 }
                 None => at += chunk,
             }
+            progress.tell(|| format!("{} steps left", steps.len()));
         }
         if started.elapsed() >= patience || (chunk == 1 && steps.len() == before) {
             return steps;

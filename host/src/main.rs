@@ -13,6 +13,7 @@ mod calls;
 mod cases;
 mod coverage;
 mod damage;
+mod fence;
 mod flash;
 mod history;
 mod ledger;
@@ -28,8 +29,9 @@ mod states;
 mod twin;
 mod wrong;
 
+use calls::Store;
 use coverage::Coverage;
-use machine::Judges;
+use machine::{Judges, Step};
 use progress::Progress;
 use session::Profile;
 use sound::Clause;
@@ -48,6 +50,16 @@ const LINKED: bool = cfg!(archive);
 /// Calls in a gate run.
 const CALLS: u64 = 1_000_000;
 
+/// How long a failing session is cut down.
+const PATIENCE: Duration = Duration::from_secs(60);
+
+/// Steps that the session of a small fault in the data may have once it is cut down.
+const SHORT: usize = 30;
+
+/// Calls in the sessions between fences, on each side.
+#[cfg(archive)]
+const FENCED_CALLS: u64 = 60_000;
+
 /// Of these, so many to one are transaction calls of pairs.
 const PAIRS_PART: u64 = 10;
 
@@ -56,6 +68,7 @@ fn usage() -> ExitCode {
         "usage: ventarico-host cases                    the named cases of document 01\n\
          \x20      ventarico-host sessions [calls] [seed]  random sessions (default {CALLS} calls, a new seed)\n\
          \x20      ventarico-host damage [seed]            stores that are not sound\n\
+         \x20      ventarico-host fences [percent] [seed]  damage and sessions on slices between fences (default 100)\n\
          \x20      ventarico-host pairs [calls] [seed]     pairs of stores with the same transactions (default {})\n\
          \x20      ventarico-host wrong [seed]             wrong stores, each of which must be caught\n\
          \x20      ventarico-host coverage [calls] [seed]  sessions and damage, then what they have shown\n\
@@ -87,20 +100,32 @@ fn main() -> ExitCode {
     let mut coverage = Coverage::new();
     let (passed, failed) = match (words.first().map(String::as_str), numbers.len()) {
         (Some("cases"), 0) => cases(),
-        (Some("sessions"), 0..=2) => sessions(calls, seed, &mut coverage),
+        (Some("sessions"), 0..=2) => sessions(&Tested {}, calls, seed, &mut coverage),
         (Some("pairs"), 0) => pairs(CALLS / PAIRS_PART, seed),
         (Some("pairs"), 1..=2) => pairs(calls, seed),
-        (Some("damage"), 0..=1) => damage(only_seed, &mut coverage),
+        (Some("damage"), 0..=1) => damage(&Tested {}, only_seed, 100, &mut coverage),
+        (Some("fences"), 0) => fences(100, seed),
+        (Some("fences"), 1..=2) => fences(numbers[0], seed),
+        // For `fences`, which runs this program anew for each.
+        (Some("stray"), 1) => {
+            fence::go_astray(numbers[0] as usize);
+            (0, 1)
+        }
         (Some("wrong"), 0..=1) => wrong(only_seed),
         (Some("coverage"), 0..=2) => {
-            let parts = [sessions(calls, seed, &mut coverage), damage(seed, &mut coverage), covered(&coverage)];
+            let parts = [
+                sessions(&Tested {}, calls, seed, &mut coverage),
+                damage(&Tested {}, seed, 100, &mut coverage),
+                covered(&coverage),
+            ];
             sum(&parts)
         }
         (Some("all"), 0..=2) => {
             let parts = [
                 cases(),
-                sessions(calls, seed, &mut coverage),
-                damage(seed, &mut coverage),
+                sessions(&Tested {}, calls, seed, &mut coverage),
+                damage(&Tested {}, seed, 100, &mut coverage),
+                fences(100, seed),
                 pairs(calls / PAIRS_PART, seed),
                 wrong(seed),
                 covered(&coverage),
@@ -123,6 +148,34 @@ fn sum(parts: &[(u64, u64)]) -> (u64, u64) {
     parts.iter().fold((0, 0), |sum, part| (sum.0 + part.0, sum.1 + part.1))
 }
 
+/// How many of a list have passed.
+#[derive(Default)]
+struct Tally {
+    passed: u64,
+    failed: u64,
+}
+
+impl Tally {
+    /// Counts one, and gives the word to print for it.
+    fn mark(&mut self, ok: bool) -> &'static str {
+        self.passed += u64::from(ok);
+        self.failed += u64::from(!ok);
+        if ok {
+            "ok    "
+        } else {
+            "FAILED"
+        }
+    }
+
+    /// Gives both numbers. If some were missed, says what to do next.
+    fn end(self) -> (u64, u64) {
+        if self.failed > 0 {
+            println!("  next: a wrong store that is not caught means that the run above is too gentle: mend that");
+        }
+        (self.passed, self.failed)
+    }
+}
+
 fn cases() -> (u64, u64) {
     println!("\ncases");
     let (passed, failed) = cases::run(&Tested {});
@@ -133,14 +186,14 @@ fn cases() -> (u64, u64) {
 }
 
 /// Random sessions, seed after seed, until the calls are made or one fails.
-fn sessions(calls: u64, seed: u64, coverage: &mut Coverage) -> (u64, u64) {
+fn sessions<S: Store + Clone>(store: &S, calls: u64, seed: u64, coverage: &mut Coverage) -> (u64, u64) {
     println!("\nsessions: {calls} calls, first seed {seed}");
     let judges = Judges { twin: LINKED, history: true, wild: false };
     let mut progress = Progress::new("sessions");
     let (mut made, mut passed) = (0, 0);
     while made < calls {
         let this = seed.wrapping_add(passed);
-        let ran = session::run(&Tested {}, judges, this, u64::MAX, coverage);
+        let ran = session::run(store, judges, this, u64::MAX, coverage);
         made += ran.calls;
         if let Some((steps, why)) = ran.failure {
             println!(
@@ -150,9 +203,9 @@ fn sessions(calls: u64, seed: u64, coverage: &mut Coverage) -> (u64, u64) {
             );
             println!("  cutting it down");
             let judges = Judges { wild: Profile::of(this).wild, ..judges };
-            let steps = machine::shrink(&Tested {}, judges, steps, Duration::from_secs(60));
+            let steps = machine::shrink(store, judges, steps, PATIENCE);
             println!("  its shortest form, {} steps:", steps.len());
-            machine::print_failing(&Tested {}, judges, &steps);
+            machine::print_failing(store, judges, &steps);
             println!("  next: write these calls down as a case, mend, then run `sessions 1 {this}` and the gate again");
             return (passed, 1);
         }
@@ -203,24 +256,48 @@ fn pairs(calls: u64, seed: u64) -> (u64, u64) {
         progress.seconds()
     );
     println!("  wrong stores beside the second program, after how many transaction calls they are caught:");
-    let (mut passed, mut failed) = (sum.pairs, 0);
+    let mut tally = Tally { passed: sum.pairs, failed: 0 };
     for (fault, said) in Fault::ALL.iter().filter(|(fault, _)| pair::MUST_CATCH.contains(fault)) {
         let caught = pair::caught(*fault, seed, 100_000);
         let after = caught.map_or("-".to_string(), |calls| calls.to_string());
-        println!("  {}{after:>8}  {}", if caught.is_some() { "ok    " } else { "FAILED" }, said.trim());
-        if caught.is_some() {
-            passed += 1
-        } else {
-            failed += 1
-        }
+        println!("  {}{after:>8}  {}", tally.mark(caught.is_some()), said.trim());
         progress.tell(|| said.trim().to_string());
     }
-    (passed, failed)
+    tally.end()
 }
 
-fn damage(seed: u64, coverage: &mut Coverage) -> (u64, u64) {
+fn damage<S: Store + Clone>(store: &S, seed: u64, percent: u64, coverage: &mut Coverage) -> (u64, u64) {
     println!("\ndamage");
-    damage::run(&Tested {}, seed, coverage)
+    damage::run(store, seed, percent, coverage)
+}
+
+/// Damage and sessions on slices that end at a fence, then on slices that begin at one. First what the fences catch.
+fn fences(percent: u64, seed: u64) -> (u64, u64) {
+    println!("\nfences: what they must catch, each in a process of its own");
+    let (passed, missed) = fence::catch_strays().unwrap_or_else(|why| (0, vec![format!("no process: {why}")]));
+    println!(
+        "  {passed} strays caught: a byte read or written beside a slice, or written where it is lent for reading"
+    );
+    missed.iter().for_each(|what| println!("  FAILED  not caught: {what}"));
+    let strays = Tally { passed, failed: missed.len() as u64 };
+    sum(&[strays.end(), fenced(percent, seed)])
+}
+
+#[cfg(archive)]
+fn fenced(percent: u64, seed: u64) -> (u64, u64) {
+    let runs = [fence::Side::Behind, fence::Side::Before].map(|side| {
+        println!("\nfences: each lent slice has one just {}", format!("{side:?}").to_lowercase());
+        let store = Tested::fenced(side);
+        let damaged = damage(&store, seed, percent, &mut Coverage::off());
+        sum(&[damaged, sessions(&store, FENCED_CALLS * percent / 100, seed, &mut Coverage::off())])
+    });
+    sum(&runs)
+}
+
+#[cfg(not(archive))]
+fn fenced(_: u64, _: u64) -> (u64, u64) {
+    println!("  no store is linked that could go astray");
+    (0, 0)
 }
 
 /// Wrong stores. Each must be caught by the sessions, held to the second program; those that touch committed data
@@ -237,51 +314,53 @@ fn wrong(seed: u64) -> (u64, u64) {
         Fault::CompactTakesFrameBytes,
     ];
     println!(
-        "\nwrong stores, seed {seed}: after how many calls each is caught, by the second program and by the history"
+        "\nwrong stores, seed {seed}: after how many calls each is caught, by the second program and by the history;"
     );
+    println!("how many steps its failing session has when it is cut down");
     let mut progress = Progress::new("wrong stores");
-    let (mut passed, mut failed) = (0, 0);
+    let mut tally = Tally::default();
+    let mut shown = None;
     for (i, (fault, said)) in Fault::ALL.iter().enumerate() {
         let by_twin = caught(*fault, Judges { twin: true, history: false, wild: false }, seed, 400_000);
         let by_history = caught(*fault, Judges { twin: false, history: true, wild: false }, seed, 40_000);
-        let needed = BY_HISTORY.contains(fault);
-        let ok = by_twin.is_some() && (by_history.is_some() || !needed);
-        let after = |calls: Option<u64>| calls.map_or("-".to_string(), |calls| calls.to_string());
-        println!(
-            "  {}{:>8}{:>8}  {}",
-            if ok { "ok    " } else { "FAILED" },
-            after(by_twin),
-            after(by_history),
-            said.trim()
-        );
-        if ok {
-            passed += 1
-        } else {
-            failed += 1
-        }
+        let after =
+            |caught: &Option<Caught>| caught.as_ref().map_or("-".to_string(), |caught| caught.after.to_string());
+        let (twin_after, history_after) = (after(&by_twin), after(&by_history));
+        let short = by_twin.map(|caught| {
+            let steps = machine::shrink(&Wrong::new(*fault), caught.judges, caught.steps, PATIENCE);
+            Caught { steps, ..caught }
+        });
+        let steps = short.as_ref().map_or(0, |short| short.steps.len());
+        // Where a table must be filled first, the shortest form has as many steps as that takes.
+        let known = BY_HISTORY.contains(fault);
+        let ok = short.is_some() && (!known || by_history.is_some() && steps <= SHORT);
+        println!("  {}{twin_after:>8}{history_after:>8}{steps:>5}  {}", tally.mark(ok), said.trim());
+        // One of them in full, as a failing run would print it.
+        shown = shown.or(short.map(|short| (*fault, said.trim(), short)));
         progress.tell(|| format!("{} of {}", i + 1, Fault::ALL.len()));
     }
+    if let Some((fault, said, short)) = shown {
+        println!("  the shortest form of the first, '{said}':");
+        machine::print_failing(&Wrong::new(fault), short.judges, &short.steps);
+    }
     println!("  clauses left unchecked, caught by damage:");
-    for (clause, label) in Clause::ALL {
+    for (clause, name) in Clause::ALL {
         let ok = damage::catches(&Wrong::new(Fault::Unchecked(clause)), clause, seed);
-        println!("  {}  {label}", if ok { "ok    " } else { "FAILED" });
-        if ok {
-            passed += 1
-        } else {
-            failed += 1
-        }
-        progress.tell(|| label.to_string());
+        println!("  {}  {name}", tally.mark(ok));
+        progress.tell(|| name.to_string());
     }
-    if failed > 0 {
-        println!(
-            "  next: a wrong store that is not caught means that the sessions or the wounds are too gentle: mend those"
-        );
-    }
-    (passed, failed)
+    tally.end()
 }
 
-/// After how many calls the sessions catch the fault, if they do.
-fn caught(fault: Fault, judges: Judges, seed: u64, most: u64) -> Option<u64> {
+/// A wrong store that was caught: after how many calls, by whom, and the steps of the session that did it.
+struct Caught {
+    after: u64,
+    judges: Judges,
+    steps: Vec<Step>,
+}
+
+/// Runs sessions on a store with the fault until one fails, if one does.
+fn caught(fault: Fault, judges: Judges, seed: u64, most: u64) -> Option<Caught> {
     let mut coverage = Coverage::off();
     let (mut made, mut seed) = (0, seed);
     while made < most {
@@ -289,8 +368,9 @@ fn caught(fault: Fault, judges: Judges, seed: u64, most: u64) -> Option<u64> {
         if Profile::of(seed).stored_bytes() <= 1 << 20 {
             let ran = session::run(&Wrong::new(fault), judges, seed, u64::MAX, &mut coverage);
             made += ran.calls;
-            if ran.failure.is_some() {
-                return Some(made);
+            if let Some((steps, _)) = ran.failure {
+                let judges = Judges { wild: Profile::of(seed).wild, ..judges };
+                return Some(Caught { after: made, judges, steps });
             }
         }
         seed = seed.wrapping_add(1);

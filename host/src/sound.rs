@@ -3,12 +3,13 @@
 //! Scratch marks on the stack (frames, pages, log slots, the bytes of one page) keep the whole check linear in the
 //! tables' lengths. The answer is the set of broken clauses, not a mere yes or no: a damage run must know that it
 //! broke the clause that it meant to, and no other. Where a broken clause leaves others without a meaning (a wrong
-//! length, a count past its table, n above L) the check stops there.
+//! length, a count past its table, n above L) the check stops there; a row that is not well formed, or whose owner and
+//! number do not go together, is asked nothing more.
 
 use crate::areas::{get4, Areas, Sizes, FIXED_LENGTH, LOG_ROW, MARKS_HEAD, ONLINE_ROW, TABLES_HEAD};
 use crate::record::Record;
 
-/// The clauses in the order of document 01, then the one that LAYOUT.md adds.
+/// The clauses S1 to S20 of docs/TRACE.md: in the order of document 01, then the one that LAYOUT.md adds.
 #[derive(Clone, Copy, PartialEq, Eq, Debug)]
 pub enum Clause {
     Params,
@@ -18,7 +19,7 @@ pub enum Clause {
     FrameOnce,
     Order,
     Record,
-    OwnerLive,
+    Owner,
     NumberOnce,
     InLog,
     AboveStamp,
@@ -34,32 +35,34 @@ pub enum Clause {
 }
 
 impl Clause {
-    /// Every clause with its label.
+    /// Every clause with its name: label and words are those of docs/TRACE.md.
     pub const ALL: [(Clause, &'static str); 20] = [
-        (Clause::Params, "S-params"),
-        (Clause::Lengths, "S-lengths"),
-        (Clause::Counts, "S-counts"),
-        (Clause::Entry, "S-entry"),
-        (Clause::FrameOnce, "S-frame-once"),
-        (Clause::Order, "S-order"),
-        (Clause::Record, "S-record"),
-        (Clause::OwnerLive, "S-owner-live"),
-        (Clause::NumberOnce, "S-number-once"),
-        (Clause::InLog, "S-in-log"),
-        (Clause::AboveStamp, "S-above-stamp"),
-        (Clause::DirtyIffRecord, "S-dirty-iff-record"),
-        (Clause::NoSharedByte, "S-no-shared-byte"),
-        (Clause::RowsZero, "S-rows-zero"),
-        (Clause::StampKLeL, "S-stamp-K-le-L"),
-        (Clause::NLeL, "S-n-le-L"),
-        (Clause::DirtyLeK, "S-dirty-le-K"),
-        (Clause::FirstLeK1, "S-first-le-K1"),
-        (Clause::FirstLeDirty, "S-first-le-dirty"),
-        (Clause::LiveByte, "S-live-byte"),
+        (Clause::Params, "S1 parameters in range"),
+        (Clause::Lengths, "S2 lent lengths exact"),
+        (Clause::Counts, "S3 counts within sizes"),
+        (Clause::Entry, "S4 each entry is absent, in a frame or evicted"),
+        (Clause::FrameOnce, "S5 no frame serves two pages"),
+        (Clause::Order, "S6 the use order names each frame in use once and no other"),
+        (Clause::Record, "S7 records are well formed"),
+        (Clause::Owner, "S8 owners live; owner and number of a row"),
+        (Clause::NumberOnce, "S9 no nonzero number occurs twice"),
+        (Clause::InLog, "S10 each committed online record is the log's record of its number"),
+        (Clause::AboveStamp, "S11 above its page's stamp"),
+        (Clause::DirtyIffRecord, "S12 an entry is dirty exactly if the online table has a record for the page"),
+        (Clause::NoSharedByte, "S13 uncommitted records of different owners share no byte"),
+        (Clause::RowsZero, "S14 rows past a count are zero"),
+        (Clause::StampKLeL, "S15 stamps and K are at most L"),
+        (Clause::NLeL, "S16 n at most L"),
+        (Clause::DirtyLeK, "S17 each nonzero dirty number is at most K"),
+        (Clause::FirstLeK1, "S18 the log's first number is at most K+1"),
+        (Clause::FirstLeDirty, "S19 and at most each nonzero dirty number"),
+        (Clause::LiveByte, "S20 one canonical value: a live byte is 0 or 1 (ours)"),
     ];
 
+    /// S1 to S20.
     pub fn label(self) -> &'static str {
-        Clause::ALL[self as usize].1
+        let name = Clause::ALL[self as usize].1;
+        name.split_once(' ').map_or(name, |(label, _)| label)
     }
 }
 
@@ -74,6 +77,9 @@ impl Clauses {
     pub fn none(self) -> bool {
         self.0 == 0
     }
+    pub fn has(self, clause: Clause) -> bool {
+        self.0 >> clause as u32 & 1 == 1
+    }
     fn add(&mut self, clause: Clause) {
         self.0 |= 1 << clause as u32;
     }
@@ -85,8 +91,7 @@ impl Clauses {
 
 impl std::fmt::Display for Clauses {
     fn fmt(&self, f: &mut std::fmt::Formatter) -> std::fmt::Result {
-        let labels: Vec<_> =
-            Clause::ALL.iter().filter(|(c, _)| self.0 >> *c as u32 & 1 == 1).map(|(_, l)| *l).collect();
+        let labels: Vec<_> = Clause::ALL.iter().filter(|(c, _)| self.has(*c)).map(|(c, _)| c.label()).collect();
         write!(f, "{}", if labels.is_empty() { "none".to_string() } else { labels.join(" ") })
     }
 }
@@ -224,7 +229,7 @@ fn lost(a: &Areas, sizes: &Sizes, broken: &mut Clauses) {
         }
         match (row[14], get4(row, 15)) {
             (owner @ 1..=32, 0) => {
-                broken.ask(Clause::OwnerLive, live[usize::from(owner) - 1] != 0);
+                broken.ask(Clause::Owner, live[usize::from(owner) - 1] == 1);
                 older[i] = newest[page];
                 newest[page] = i as u16;
             }
@@ -240,7 +245,7 @@ fn lost(a: &Areas, sizes: &Sizes, broken: &mut Clauses) {
                     slot_taken[slot] = true;
                 }
             }
-            _ => broken.add(Clause::Record),
+            _ => broken.add(Clause::Owner),
         }
     }
     for (page, &entry) in entries.iter().enumerate() {
@@ -275,10 +280,14 @@ mod tests {
     use super::*;
 
     #[test]
-    fn labels_stand_at_their_clause() {
-        for (i, (clause, label)) in Clause::ALL.into_iter().enumerate() {
+    fn names_are_those_of_the_trace() {
+        let trace = include_str!("../../docs/TRACE.md");
+        for (i, (clause, name)) in Clause::ALL.into_iter().enumerate() {
             assert_eq!(clause as usize, i);
+            let (label, words) = name.split_once(' ').unwrap();
+            assert_eq!(label, format!("S{}", i + 1));
             assert_eq!(Clauses::only(clause).to_string(), label);
+            assert!(trace.contains(&format!("\n| {label} | {words} |")), "docs/TRACE.md has other words for {name}");
         }
     }
 

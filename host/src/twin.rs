@@ -534,7 +534,7 @@ impl Store for Twin {
         }
     }
 
-    fn part(&mut self, a: &mut Areas, min_del: u32, max_age: u32, steps: u32) {
-        checkpoint_part(a, min_del, max_age, steps);
+    fn part(&mut self, a: &mut Areas, min_del: u32, max_age: u32, steps: u32) -> Reply {
+        checkpoint_part(a, min_del, max_age, steps)
     }
 }

@@ -484,14 +484,11 @@ impl Store for Wrong {
         self.bend(&was, a, call, buffer, right)
     }
 
-    fn part(&mut self, a: &mut Areas, min_del: u32, max_age: u32, steps: u32) {
-        let pages = a.sizes().pages;
-        for step in 0..pages.min(steps) {
-            let page = if self.fault == Fault::CheckpointDescends { pages - 1 - step } else { step };
-            self.call(a, &Call::Compact { page, min_del, max_age }, &mut Lent::zeros(0));
-        }
-        if steps > pages {
-            self.call(a, &Call::Close, &mut Lent::zeros(0));
+    fn page_at(&self, step: u32, pages: u32) -> u32 {
+        if self.fault == Fault::CheckpointDescends && step < pages {
+            pages - 1 - step
+        } else {
+            step
         }
     }
 }

@@ -6,12 +6,12 @@
 int main(void)
 {
     checks_begin();
-    cases();
-    faults();
-    steps();
-    refusals();
-    soundness();
-    ranges();
-    clerk();
+    topic("cases", cases);
+    topic("faults", faults);
+    topic("steps", steps);
+    topic("refusals", refusals);
+    topic("soundness", soundness);
+    topic("ranges", ranges);
+    topic("clerk", clerk);
     return checks_end();
 }

@@ -64,6 +64,13 @@ void checks_begin(void)
     signal(SIGILL, died);
 }
 
+void topic(const char *name, void (*tests)(void))
+{
+    unsigned long before = passed + failed, wrong = failed;
+    tests();
+    printf("%-10s %7lu checks, %lu failed\n", name, passed + failed - before, failed - wrong);
+}
+
 int checks_end(void)
 {
     printf("%lu passed, %lu failed\n", passed, failed);

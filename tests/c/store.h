@@ -24,6 +24,8 @@ void story(const char *format, ...) __attribute__((format(printf, 1, 2)));
 void check_at(const char *file, int line, bool holds, const char *format, ...) __attribute__((format(printf, 4, 5)));
 /* Has each line printed at once, and one if a call dies. */
 void checks_begin(void);
+/* Runs the tests of a topic, and says how many checks it made. */
+void topic(const char *name, void (*tests)(void));
 /* Prints the sum. Gives the exit status. */
 int checks_end(void);
 

@@ -1,12 +1,13 @@
 /* The file-backed host of examples/, killed at random moments.
  *
  * In each round a child opens the store and does random transactions, up to four open at once. Over a pipe it says what
- * it is about to commit, and again when the commit came back. It dies in one of two ways:
+ * it is about to commit, and again when the commit came back. It dies in one of three ways:
  *   - killed: the parent sends SIGKILL at a random moment;
- *   - power: at a random write, sync or truncation the child does a part of what was asked, takes back by chance all or
- *     some of what no sync has covered yet, as a disk may do, and kills itself. (These calls are wrapped by the linker;
- *     the host's code is as it is in examples/.)
- * In half of the rounds up to three more children die the same way while they open the file, in the midst of mending it.
+ *   - crash: at a random write, sync or truncation the child does a part of what was asked and kills itself;
+ *   - power: the same, but it first takes back by chance all or some of what no sync has covered yet, as a disk may do.
+ * (These calls are wrapped by the linker; the host's code is as it is in examples/.) What a killed or crashed process
+ * wrote to the journal and did not sync may still be lost with the power that goes in a later one.
+ * In most rounds up to three more children die while they open the file, in the midst of mending it.
  * Then the parent opens the file and compares every byte of every page with a model, which is given the commits that
  * were reported done: the store must be the model, or the model and the one commit that was in flight, as a whole.
  * Every tenth round begins with no file, so that the format dies too.
@@ -14,6 +15,7 @@
  * usage: kill FOLDER [SEED [ROUNDS]]      a folder for the store's files
  */
 #define _XOPEN_SOURCE 700
+#define _DEFAULT_SOURCE /* MAP_ANONYMOUS */
 #include <errno.h>
 #include <inttypes.h>
 #include <poll.h>
@@ -21,6 +23,7 @@
 #include <stdio.h>
 #include <stdlib.h>
 #include <string.h>
+#include <sys/mman.h>
 #include <sys/stat.h>
 #include <sys/wait.h>
 #include <time.h>
@@ -50,8 +53,10 @@ int __wrap_fsync(int file);
 int __wrap_ftruncate(int file, off_t length);
 ssize_t __wrap_pwrite(int file, const void *bytes, size_t length, off_t at);
 
-static unsigned long left; /* wrapped calls until the power goes; 0: never */
-static bool real_syncs;    /* where the power is played, syncs are too: so the test is quick */
+static unsigned long left; /* wrapped calls until the child dies; 0: never */
+static bool crash;         /* it dies without a loss of power */
+static bool real_syncs;    /* where the death is played, syncs are too: so the test is quick */
+static bool *unsynced;     /* shared by all children: the journal has bytes that no sync has covered */
 
 /* The file as it was before a change that is not synced. */
 struct change {
@@ -109,11 +114,21 @@ static void take_back(const struct change *c)
         abort();
 }
 
-static void power_goes(void)
+static bool is_journal(int file)
 {
-    for (size_t i = changed; i-- > 0;)
+    struct stat one, other;
+    return fstat(file, &one) == 0 && stat(beside, &other) == 0 && one.st_ino == other.st_ino;
+}
+
+/* The child's last deed. */
+static void die(void)
+{
+    for (size_t i = changed; i-- > 0 && !crash;)
         if (chance(2))
             take_back(&changes[i]);
+    if (*unsynced && !crash && chance(2) && truncate(beside, 0) != 0)
+        abort();
+    *unsynced = *unsynced && crash;
     kill(getpid(), SIGKILL);
 }
 
@@ -139,9 +154,10 @@ static bool last_call(void)
 ssize_t __wrap_pwrite(int file, const void *bytes, size_t length, off_t at)
 {
     remember(file, (size_t)at, length);
+    *unsynced = *unsynced || is_journal(file);
     if (last_call()) {
         write_some(file, bytes, length, at);
-        power_goes();
+        die();
     }
     return __real_pwrite(file, bytes, length, at);
 }
@@ -150,16 +166,18 @@ int __wrap_ftruncate(int file, off_t length)
 {
     remember(file, 0, 0);
     if (last_call())
-        power_goes();
+        die();
     return __real_ftruncate(file, length);
 }
 
 int __wrap_fsync(int file)
 {
     if (last_call())
-        power_goes();
+        die();
     forget(file);
-    return real_syncs ? __real_fsync(file) : 0;
+    int result = real_syncs ? __real_fsync(file) : 0;
+    *unsynced = *unsynced && !is_journal(file);
+    return result;
 }
 
 /* ---- The child. */
@@ -364,20 +382,24 @@ static bool read_store(void)
 static bool round_holds(unsigned long number)
 {
     int pipes[2];
-    bool fresh = number % 10 == 0, power = chance(8) > 0;
+    uint64_t dice = chance(8);
+    bool fresh = number % 10 == 0, killed = dice == 0;
+    crash = dice == 1 || dice == 2;
+    const char *death = killed ? "killed" : crash ? "crash" : "power";
     if (fresh) {
         unlink(path);
         unlink(beside);
         memset(model, 0, sizeof model);
+        *unsynced = false;
     }
     if (pipe(pipes) != 0) {
         perror("pipe");
         return false;
     }
     struct message flight;
-    pid_t made = start_child(pipes, power ? 1 + chance(fresh ? 12 : 160) : 0, false);
+    pid_t made = start_child(pipes, killed ? 0 : 1 + chance(fresh ? 12 : 160), false);
     close(pipes[1]);
-    bool good = made > 0 && follow(made, pipes[0], power ? 5000 : (long)chance(60), &flight);
+    bool good = made > 0 && follow(made, pipes[0], killed ? (long)chance(60) : 5000, &flight);
     close(pipes[0]);
     if (!good) {
         printf("FAILED round %lu: the child ended in a way of its own. Next: its line above says which call.\n", number);
@@ -385,9 +407,10 @@ static bool round_holds(unsigned long number)
     }
     struct stat is;
     journals += stat(beside, &is) == 0 && is.st_size > 0;
-    if (chance(2))
+    if (killed || crash || chance(2))
         for (uint64_t n = chance(4); n > 0; n--) {
             int status;
+            crash = chance(4) == 0;
             pid_t opener = start_child(NULL, 1 + chance(8), true);
             waitpid(opener, &status, 0);
             if (WIFEXITED(status) && WEXITSTATUS(status) != 0) {
@@ -414,7 +437,7 @@ static bool round_holds(unsigned long number)
     while (((uint8_t *)found)[at] == ((uint8_t *)model)[at])
         at++;
     printf("FAILED round %lu (%s): page %zu, offset %zu is %u; committed was %u. Next: see which save was cut, in "
-           "examples/filestore.c.\n", number, power ? "power" : "killed", at / PAGE, at % PAGE, ((uint8_t *)found)[at],
+           "examples/filestore.c.\n", number, death, at / PAGE, at % PAGE, ((uint8_t *)found)[at],
         ((uint8_t *)model)[at]);
     memcpy(model, found, sizeof model); /* the next round is judged by itself */
     return false;
@@ -432,9 +455,20 @@ int main(int count, char **words)
     snprintf(beside, sizeof beside, "%s.journal", path);
     state = seed * UINT64_C(0x9e3779b97f4a7c15) | 1;
     signal(SIGPIPE, SIG_IGN);
+    unsynced = mmap(NULL, sizeof *unsynced, PROT_READ | PROT_WRITE, MAP_SHARED | MAP_ANONYMOUS, -1, 0);
+    if (unsynced == MAP_FAILED) {
+        perror("mmap");
+        return 2;
+    }
     printf("seed %" PRIu64 " (the moments of SIGKILL differ from run to run)\n", seed);
-    for (unsigned long i = 0; i < rounds; i++)
+    long began = milliseconds(), told = began;
+    for (unsigned long i = 0; i < rounds; i++) {
         passed += round_holds(i);
+        if (milliseconds() - told >= 3000) {
+            told = milliseconds();
+            fprintf(stderr, "  ... kill test: %lu of %lu rounds, %ld s\n", i + 1, rounds, (told - began) / 1000);
+        }
+    }
     printf("%lu commits reported done; %lu deaths with a commit in flight, of which %lu were kept; %lu left a journal\n",
         commits, flights, flights_kept, journals);
     printf("%lu passed, %lu failed\n", passed, rounds - passed);

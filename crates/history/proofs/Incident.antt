@@ -3,31 +3,25 @@
 use Prim.Native.Nat.{ℕ, _+_, _≤_, _<_}
 use native.Mathlib.Omega.{arith}
 use mathlib.Core.Path.{_≡_, refl, sym, ap, _∙_}
-use mathlib.Core.Bool.{Bool, true, false, cond, not, _&&_, _||_}
+use mathlib.Core.Bool.{Bool, true, false, cond, not, _&&_, _||_, false≢true}
 use mathlib.Core.List.{List, [], _∷_, _++_, append-nil}
 use lib.ListN.{length}
 use lib.Dec.{leb, ltb}
 use borrow.Author.Tests.{eqb-true, ne-eqb, ltb-true, le-leb, lt-leb}
 use Rattle.record.specs.Rows.{keep, consIf}
-use Rattle.record.specs.Record.{ownerOf, numberOf, committed, applied, onPage, ownedBy, numbered, numberRows}
+use Rattle.record.specs.Record.{ownerOf, numberOf, committed, applied, onPage, committedOn, ownedBy, numbered, numberRows}
 use Rattle.table.proofs.Laws.{Wide, none, one, wide-keep, wide-append, wide-number}
 use Rattle.rules.specs.Sound.{every}
 use Rattle.onlinecheck.proofs.Rows.{and-both, every-imp}
 use Rattle.redo.proofs.View.{keep-append}
 use Rattle.redo.proofs.Views.{keep-keep, keep-same, keep-same-where, keep-swap}
 use Rattle.redo.proofs.Loose.{≅-every, owned-open}
-use Rattle.redo.proofs.Numbered.{keep-committed-all, keep-others-all, numbered-committed, numbered-number, numberedFrom-between}
+use Rattle.redo.proofs.Numbered.{every-not-owned, numberedFrom-committed, keep-committed-all, keep-others-all, numbered-committed, numbered-number, numberedFrom-between}
 use Rattle.history.specs.Past.{Past, begins, updates, commits, aborts, falls, rises, startPage, shown}
-use Rattle.history.proofs.Right.{Ground, PastRight, rowsOf, uncommitted, openOf}
+use Rattle.history.specs.Committed.{committedOf, numberedTo}
+use Rattle.history.proofs.Right.{Ground, PastRight, rowsOf, uncommitted, openOf, openRow}
 use Rattle.history.proofs.Pasts.{every-append, every-kept, made-wide}
-
--- the committed updates, with their numbers, in the order made
-abbrev pub committedOf : Past → List (List ℕ)
-committedOf h = keep committed (h .made)
-
--- committed under a number up to n
-abbrev pub numberedTo : ℕ → List ℕ → Bool
-numberedTo n r = committed r && leb (numberOf r) n
+use Rattle.history.proofs.Soundly.{open-facts}
 
 -- begin, abort, update, a loss and a restart leave what is committed as it is
 pub begin-keeps : (h : Past) (x : ℕ) → committedOf (begins h x) ≡ committedOf h
@@ -88,9 +82,9 @@ module _ {g : Ground} {done : List (List ℕ)} {h : Past} (p : PastRight g done 
   numbers =
       ≅-every low (p .made)
       ∙ every-append low (rowsOf g done) (openOf h)
-        (every-imp inside low (λ r k. given r (and-both (leb 0 (numberOf r)) (ltb (numberOf r) (h .last + 1)) k .1)) (rowsOf g done)
-          (numberedFrom-between 0 (h .last + 1) (g .base + 1) (p .done-wide) (omega arith) (omega (arith, p .last)) (omega (arith, p .bound))))
-        (every-imp uncommitted low (λ r k. ap (λ (t : Bool). t || leb (numberOf r) (h .last)) k) (openOf h) (every-kept uncommitted (h .made)))
+      (every-imp inside low (λ r k. given r (and-both (leb 0 (numberOf r)) (ltb (numberOf r) (h .last + 1)) k .1)) (rowsOf g done)
+      (numberedFrom-between 0 (h .last + 1) (g .base + 1) (p .done-wide) (omega arith) (omega (arith, p .last)) (omega (arith, p .bound))))
+      (every-imp uncommitted low (λ r k. ap (λ (t : Bool). t || leb (numberOf r) (h .last)) k) (openOf h) (every-kept uncommitted (h .made)))
     where
       low : List ℕ → Bool
       low r = not (committed r) || leb (numberOf r) (h .last)
@@ -113,15 +107,6 @@ module _ {g : Ground} {done : List (List ℕ)} {h : Past} (p : PastRight g done 
       go true t k = k
       go false t k = refl
 
-  -- commit: the updates that were committed before are still there, with their numbers, in their order
-  pub commit-keeps : (x : ℕ) → 1 ≤ x → h .last + length (keep (ownedBy x) (h .made)) ≤ 4294967295 → keep (numberedTo (h .last)) (commits h x .made) ≡ committedOf h
-  commit-keeps x m b = commit-stands h x (h .last) m (omega arith) (made-wide p) b ∙ committed-to
-
--- what a reader is shown after a begin under another number, or under the reader's own: what was shown before
-pub begin-shows : (h : Past) (x y p : ℕ) → shown (begins h x) y p ≡ shown h y p
-unfolding begins shown
-begin-shows h x y p = refl
-
 -- an abort under another number changes nothing that the reader is shown
 pub abort-shows : (h : Past) (x y p : ℕ) → (y ≡ x → ⊥) → 1 ≤ x → shown (aborts h x) y p ≡ shown h y p
 unfolding aborts shown
@@ -141,20 +126,33 @@ abort-shows h x y p d m =
     go r true e = unseen (onPage p r) (committed r) (ownedBy y r) (owned-open x m r e) (ne-eqb (ownerOf r) y (λ f. d (sym f ∙ eqb-true (ownerOf r) x e)))
     go r false e = refl
 
--- and who is given the number after the abort is shown just what is committed
-pub reissue-shows : (h : Past) (x p : ℕ) → 1 ≤ x → shown (begins (aborts h x) x) x p ≡ applied (keep (λ (r : List ℕ). onPage p r && committed r) (h .made)) (startPage h p)
-unfolding begins aborts shown
-reissue-shows h x p m =
-    ap (λ (l : List (List ℕ)). applied l (startPage h p))
-    (keep-keep (λ (r : List ℕ). onPage p r && (committed r || ownedBy x r)) (λ (r : List ℕ). not (ownedBy x r)) (h .made)
-    ∙ keep-same (λ (r : List ℕ). not (ownedBy x r) && (onPage p r && (committed r || ownedBy x r))) (λ (r : List ℕ). onPage p r && committed r)
-      (λ r. go (ownedBy x r) (onPage p r) (committed r) (owned-open x m r)) (h .made))
+-- a number that is not live has no row: what its owners made is committed or taken back
+pub unowned : {g : Ground} {done : List (List ℕ)} {h : Past} → PastRight g done h → (x : ℕ) → 1 ≤ x → h .live x ≡ false → every (λ (r : List ℕ). not (ownedBy x r)) (h .made) ≡ true
+unowned {g} {done} {h} p x m n =
+    ≅-every another (p .made)
+    ∙ every-append another (rowsOf g done) (openOf h)
+    (every-not-owned x (rowsOf g done) m (numberedFrom-committed (g .base + 1) (p .done-wide)))
+    (every-imp (openRow g (h .live)) another (λ r e. go r (ownedBy x r) refl (open-facts g (h .live) r e .alive)) (openOf h) (p .open-rows))
   where
-    go : (o a c : Bool) → (o ≡ true → c ≡ false) → (not o && (a && (c || o))) ≡ (a && c)
-    go true true c f = sym (f refl)
-    go true false c f = refl
-    go false a true f = refl
-    go false a false f = refl
+    another : List ℕ → Bool
+    another r = not (ownedBy x r)
+
+    go : (r : List ℕ) (t : Bool) → ownedBy x r ≡ t → h .live (ownerOf r) ≡ true → not t ≡ true
+    go r true e a = absurd (false≢true (sym n ∙ ap (λ (y : ℕ). h .live y) (sym (eqb-true (ownerOf r) x e)) ∙ a))
+    go r false e a = refl
+
+-- so who is given it next is shown just what is committed
+pub new-shows : {g : Ground} {done : List (List ℕ)} {h : Past} → PastRight g done h → (x p : ℕ) → 1 ≤ x → h .live x ≡ false → shown h x p ≡ applied (keep (committedOn p) (h .made)) (startPage h p)
+unfolding shown
+new-shows {g} {done} {h} q x p m n =
+    ap (λ (l : List (List ℕ)). applied l (startPage h p))
+    (keep-same-where (λ (r : List ℕ). not (ownedBy x r)) (λ (r : List ℕ). onPage p r && (committed r || ownedBy x r)) (committedOn p)
+    (λ r e. go (ownedBy x r) (onPage p r) (committed r) e) (h .made) (unowned q x m n))
+  where
+    go : (o a c : Bool) → not o ≡ true → (a && (c || o)) ≡ (a && c)
+    go true a c e = absurd (false≢true e)
+    go false a true e = refl
+    go false a false e = refl
 
 -- the history some accepted calls, losses and restarts later
 pub data Later (h : Past) : Past → Type 0 where

@@ -8,6 +8,15 @@ pub mod Aborts
 pub mod Tested
 pub mod Soundly
 pub mod Known
+pub mod Least
+pub mod Closes
 pub mod Saying
 pub mod CommitDurable
 pub mod Commits
+pub mod Begins
+pub mod Fetches
+pub mod Formats
+pub mod Folding
+pub mod Restamped
+pub mod Compacts
+pub mod Checkpoints

@@ -1,4 +1,4 @@
--- What holds between the history and the bytes after every call and loss: more than soundness (`Sound` reads that off), and kept by every step.
+-- What holds between the history and the bytes after every call and loss: more than soundness (`Soundly` reads that off), and kept by every step.
 -- `done` is the bodies of the committed updates in the order of their numbers: all that was ever in the log.
 use Prim.Native.Nat.{ℕ, _+_, _*_, _-_, _≤_, _<_}
 use mathlib.Core.Path.{_≡_}

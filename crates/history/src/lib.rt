@@ -1,2 +1,2 @@
-// Demand 3: from a format on, over any calls and power losses, what reads show and what is stored is what calls and answers tell.
-// specs/ has the history and the runs; proofs/ has the theory, a chapter a file, and the theorem.
+// The history that calls and answers tell, the runs of a store, and that every step keeps what is right between the two.
+// specs/ has the history and the runs; proofs/ has the invariant and a chapter a step. Crate theorem says what follows.

@@ -1,69 +1,130 @@
-// S13: uncommitted rows of different owners share no byte.
-// Each uncommitted row is compared with all later ones: a faster version would come here.
+// S13: uncommitted rows of different owners share no byte. By S7 and S8 a row's page, bytes and owner are in range.
+// The uncommitted rows are chained by page. Then, page by page, each marks its bytes with the page and its owner:
+// a byte that another owner marked on this page is shared. Marks of earlier pages are below this page's, and stay.
 ghost use mathlib.Core.Path.{_≡_};
+ghost use mathlib.Core.Bool.{true};
 ghost use Prim.Native.Nat.{_+_, _*_, _-_, _≤_, _<_};
 ghost use lib.ListN.{length};
-ghost use Rattle.record.specs.Rows.{rowAt, rows};
-ghost use Rattle.record.specs.Record.{shareByte};
-ghost use Rattle.rules.specs.Sound.{every, pairs, apart};
+ghost use Rattle.record.specs.Rows.{rowAt, rows, keep};
+ghost use Rattle.record.specs.Record.{pageOf};
+ghost use Rattle.rules.specs.Sound.{every, pairs, upTo, apart};
+ghost use Rattle.onlinecheck.specs.Online.{pageBelow};
+ghost use Rattle.onlinecheck.specs.Bytes.{openOn, placed, Linked, headsWith, afterWith, freeByte, markBytes, freeRow, withRow, freeRows, withRows, freePages};
 
-fn share(t: &[u8], i: usize, j: usize) -> bool
-    requires { ⌜ (i * 19 + 19 ≤ length (now t)) × (j * 19 + 19 ≤ length (now t)) ⌝ }
-    ensures { λ r. ⌜ r ≡ shareByte (rowAt 19 (now (t .entry)) i) (rowAt 19 (now (t .entry)) j) ⌝ }
-{
-    let p = record::page_of(t, 19, i);
-    let q = record::page_of(t, 19, j);
-    if p.0 != q.0 {
-        return false;
-    }
-    let a = record::offset_of(t, 19, i);
-    let b = record::offset_of(t, 19, j);
-    let k = record::length_of(t, 19, i);
-    let l = record::length_of(t, 19, j);
-    (a < b + l) & (b < a + k)
-}
-
-fn is_apart(t: &[u8], i: usize, j: usize) -> bool
-    requires { ⌜ (i * 19 + 19 ≤ length (now t)) × (j * 19 + 19 ≤ length (now t)) ⌝ }
-    ensures { λ r. ⌜ r ≡ apart (rowAt 19 (now (t .entry)) i) (rowAt 19 (now (t .entry)) j) ⌝ }
-{
-    let x = record::owner_of(t, i);
-    let y = record::owner_of(t, j);
-    if (x == 0) | (y == 0) | (x == y) {
-        return true;
-    }
-    !share(t, i, j)
-}
-
-// Row i and each later row; one that is committed is apart from all.
-fn apart_after(t: &[u8], i: usize, m: usize) -> bool
-    requires { ⌜ (i < m) × (m * 19 ≤ length (now t)) ⌝ }
-    ensures { λ r. ⌜ r ≡ every (apart (rowAt 19 (now (t .entry)) i)) (rows 19 (m - (i + 1)) (now (t .entry)) (i + 1)) ⌝ }
+// Row i goes in front of its page's chain, unless it is committed.
+fn link_row(t: &[u8], i: usize, heads: &mut [u16; 1024], after: &mut [u16; 512])
+    requires { ⌜ (i * 19 + 19 ≤ length (now t)) × (i < 512) × (pageOf (rowAt 19 (now t) i) < 1024) ⌝ }
+    ensures { λ r. ⌜ (now (heads .exit) ≡ headsWith (now (heads .entry)) i (rowAt 19 (now (t .entry)) i)) × (now (after .exit) ≡ afterWith (now (heads .entry)) (now (after .entry)) i (rowAt 19 (now (t .entry)) i)) ⌝ }
 {
     let x = record::owner_of(t, i);
     if x == 0 {
-        return true;
+        return;
     }
-    let mut j = i + 1;
-    while j < m {
-        if !is_apart(t, i, j) {
+    let p = record::page_of(t, 19, i);
+    let at = p.0;
+    let next = heads[at];
+    after[i] = next;
+    heads[at] = i as u16;
+}
+
+// From the last row to the first, so that a chain has its rows in table order.
+fn link(t: &[u8], m: usize, heads: &mut [u16; 1024], after: &mut [u16; 512])
+    requires { ⌜ (m * 19 ≤ length (now t)) × (m ≤ 512) × (every (pageBelow 1024) (rows 19 m (now t) 0) ≡ true) × Linked (now t) m m (now heads) (now after) ⌝ }
+    ensures { λ r. ⌜ Linked (now (t .entry)) m 0 (now (heads .exit)) (now (after .exit)) ⌝ }
+{
+    let mut i = m;
+    while 0 < i {
+        i -= 1;
+        link_row(t, i, heads, after);
+    }
+}
+
+// The bytes from a to e have no mark of another owner on this page, and get this owner's.
+fn take_bytes(a: usize, e: usize, base: u16, mine: u16, marks: &mut [u16; 4096]) -> bool
+    requires { ⌜ (a ≤ e) × (e ≤ 4096) ⌝ }
+    ensures { λ r. ⌜ (r ≡ upTo (freeByte base mine (now (marks .entry))) (e - a) a) × (r ≡ true → now (marks .exit) ≡ markBytes mine (e - a) a (now (marks .entry))) ⌝ }
+{
+    let mut k = a;
+    while k < e {
+        let was = marks[k];
+        if (base < was) & (was != mine) {
             return false;
         }
-        j += 1;
+        marks[k] = mine;
+        k += 1;
     }
     true
 }
 
-pub fn all_apart(t: &[u8], m: usize) -> bool
-    requires { ⌜ m * 19 ≤ length (now t) ⌝ }
-    ensures { λ r. ⌜ r ≡ pairs apart (rows 19 m (now (t .entry)) 0) ⌝ }
+fn take_row(t: &[u8], i: usize, base: u16, marks: &mut [u16; 4096]) -> bool
+    requires { ⌜ (i * 19 + 19 ≤ length (now t)) × (base ≤ 65472) × (placed (rowAt 19 (now t) i) ≡ true) ⌝ }
+    ensures { λ r. ⌜ (r ≡ freeRow base (now (marks .entry)) (rowAt 19 (now (t .entry)) i)) × (r ≡ true → now (marks .exit) ≡ withRow base (now (marks .entry)) (rowAt 19 (now (t .entry)) i)) ⌝ }
 {
-    let mut i = 0;
-    while i < m {
-        if !apart_after(t, i, m) {
+    let x = record::owner_of(t, i);
+    let a = record::offset_of(t, 19, i);
+    let w = record::length_of(t, 19, i);
+    let mine = base + x as u16;
+    take_bytes(a, a + w, base, mine, marks)
+}
+
+fn index(v: u16) -> usize
+    ensures { λ r. ⌜ r ≡ v ⌝ }
+{
+    v as usize
+}
+
+// The uncommitted rows of page p, by its chain.
+fn page_apart(
+    t: &[u8],
+    m: usize,
+    p: usize,
+    heads: &[u16; 1024],
+    after: &[u16; 512],
+    marks: &mut [u16; 4096],
+) -> bool
+    requires { ⌜ (m * 19 ≤ length (now t)) × (m ≤ 512) × (p < 1024) × (every placed (rows 19 m (now t) 0) ≡ true) × Linked (now t) m 0 (now heads) (now after) ⌝ }
+    ensures { λ r. ⌜ (r ≡ freeRows (p * 64) (now (marks .entry)) (keep (openOn p) (rows 19 m (now (t .entry)) 0))) × (r ≡ true → now (marks .exit) ≡ withRows (p * 64) (now (marks .entry)) (keep (openOn p) (rows 19 m (now (t .entry)) 0))) ⌝ }
+{
+    let base = (p * 64) as u16;
+    let mut j = index(heads[p]);
+    while j < m {
+        if !take_row(t, j, base, marks) {
             return false;
         }
-        i += 1;
+        j = index(after[j]);
     }
     true
+}
+
+fn pages_apart(
+    t: &[u8],
+    m: usize,
+    pages: usize,
+    heads: &[u16; 1024],
+    after: &[u16; 512],
+    marks: &mut [u16; 4096],
+) -> bool
+    requires { ⌜ (m * 19 ≤ length (now t)) × (m ≤ 512) × (pages ≤ 1024) × (every placed (rows 19 m (now t) 0) ≡ true) × Linked (now t) m 0 (now heads) (now after) ⌝ }
+    ensures { λ r. ⌜ r ≡ freePages (rows 19 m (now (t .entry)) 0) pages 0 (now (marks .entry)) ⌝ }
+{
+    let mut p = 0;
+    while p < pages {
+        if !page_apart(t, m, p, heads, after, marks) {
+            return false;
+        }
+        p += 1;
+    }
+    true
+}
+
+// 512 is no row's index.
+pub fn all_apart(t: &[u8], m: usize, pages: usize) -> bool
+    requires { ⌜ (m * 19 ≤ length (now t)) × (m ≤ 512) × (pages ≤ 1024) × (every (pageBelow pages) (rows 19 m (now t) 0) ≡ true) × (every placed (rows 19 m (now t) 0) ≡ true) ⌝ }
+    ensures { λ r. ⌜ r ≡ pairs apart (rows 19 m (now (t .entry)) 0) ⌝ }
+{
+    let mut heads = [512u16; 1024];
+    let mut after = [512u16; 512];
+    let mut marks = [0u16; 4096];
+    link(t, m, &mut heads, &mut after);
+    pages_apart(t, m, pages, &heads, &after, &mut marks)
 }

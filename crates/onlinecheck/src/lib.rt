@@ -10,6 +10,7 @@ ghost use Rattle.record.specs.Record.{wellFormed};
 ghost use Rattle.rules.specs.Sound.{every, pairs, upTo, zeros, apart};
 ghost use Rattle.onlinecheck.specs.Online.{owned, inLog, aboveStamp, otherNumber, entryAgrees, pageBelow, onlineTest};
 ghost use Rattle.onlinecheck.specs.Marks.{slotted};
+ghost use Rattle.onlinecheck.specs.Bytes.{placed};
 
 mod formed; // S7
 mod owned; // S8
@@ -56,7 +57,7 @@ fn sound_ties(
     pages: usize,
     frames: usize,
 ) -> bool
-    requires { ⌜ (m * 19 ≤ length (now online)) × (length (now marks) ≡ 12 + 8 * pages) × (length (now tables) ≡ 35 + frames + pages) × (pages ≤ 1024) × (every (pageBelow pages) (rows 19 m (now online) 0) ≡ true) × (every (slotted first) (rows 19 m (now online) 0) ≡ true) ⌝ }
+    requires { ⌜ (m * 19 ≤ length (now online)) × (length (now marks) ≡ 12 + 8 * pages) × (length (now tables) ≡ 35 + frames + pages) × (pages ≤ 1024) × (every (pageBelow pages) (rows 19 m (now online) 0) ≡ true) × (every (slotted first) (rows 19 m (now online) 0) ≡ true) × (m ≤ 512) × (every placed (rows 19 m (now online) 0) ≡ true) ⌝ }
     ensures { λ r. ⌜ r ≡ (every (aboveStamp (now (marks .entry))) (rows 19 m (now (online .entry)) 0) && pairs otherNumber (rows 19 m (now (online .entry)) 0) && upTo (entryAgrees (part (35 + frames) pages (now (tables .entry))) (rows 19 m (now (online .entry)) 0)) pages 0 && pairs apart (rows 19 m (now (online .entry)) 0)) ⌝ }
 {
     if !stamped::all_above(online, m, marks, pages) {
@@ -68,7 +69,7 @@ fn sound_ties(
     if !dirty::all_agree(online, m, tables, pages, frames) {
         return false;
     }
-    apart::all_apart(online, m)
+    apart::all_apart(online, m, pages)
 }
 
 // The first m rows of the online table are sound with the n log rows, the stamps and the tables; `last` is the last log number.

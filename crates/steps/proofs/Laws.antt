@@ -2,14 +2,14 @@
 use Prim.Native.Nat.{ℕ, zero, suc, _+_, _-_, _/_, _≤_, _<_}
 use native.Mathlib.Omega.{arith}
 use mathlib.Core.Path.{_≡_, refl, sym, ap, _∙_}
-use mathlib.Core.Bool.{Bool, true, false, cond, not, _&&_, _||_}
+use mathlib.Core.Bool.{Bool, true, false, cond, not, _&&_}
 use mathlib.Core.List.{List, [], _∷_}
-use lib.ListN.{length, getD, take, drop, set, length-drop, List·getD-eq-default}
+use lib.ListN.{length, getD, take, drop, set, replicate, length-drop, length-replicate, getD-replicate, List·getD-eq-default}
 use lib.Seq.{getD-drop, take-all, set-out}
 use Rattle.word.specs.Word.{put}
 use Rattle.record.specs.Part.{part, withPart}
 use lib.Dec.{eqb, leb}
-use borrow.Author.Tests.{leb-true, eq-eqb, ne-eqb}
+use borrow.Author.Tests.{leb-true, leb-false, eq-eqb, ne-eqb}
 use borrow.Rule.Slice.PartMut.{mid-len, set-mid-at}
 use Rattle.record.specs.Rows.{rowAt, rows, consIf, keep, any}
 use Rattle.record.specs.Record.{pageOf, ownerOf, onPage, ownedBy}
@@ -25,6 +25,8 @@ use Rattle.order.specs.Order.{without}
 use Rattle.rules.specs.Lent.{liveAt, inFrame, frameOf, entryAt, withOrder, withCount}
 use Rattle.rules.specs.Steps.{freedOf, framesFreed, judgedAnew}
 use Rattle.rules.specs.Calls.{isNumber, isLive}
+use Rattle.onlinecheck.specs.Marks.{markPages}
+use Rattle.onlinecheck.proofs.Marks.{marked-any}
 
 -- the live set out of the tables, one slot more and all of them
 pub live-turn : (t s : List ℕ) (i : ℕ) → i < 32 → 35 ≤ length t → length s ≡ 32 → take i s ≡ take i (drop 3 t) → take (i + 1) (set s i (getD t (3 + i) 0)) ≡ take (i + 1) (drop 3 t)
@@ -95,14 +97,41 @@ row-passed x r y z o e h = sym (ap (λ (b : Bool). cond b y z) (ne-eqb (ownerOf 
 pub row-taken : (x : ℕ) (r : List ℕ) (w y z : List ℕ) (o : ℕ) → o ≡ ownerOf r → o ≡ x → w ≡ y → w ≡ cond (ownedBy x r) y z
 row-taken x r w y z o e h q = q ∙ sym (ap (λ (b : Bool). cond b y z) (eq-eqb (ownerOf r) x (sym e ∙ h)))
 
+-- a row of the owner's leaves the marks as they are, one that stays does not
+pub row-left : (x : ℕ) (r : List ℕ) (y z : List ℕ) (o : ℕ) → o ≡ ownerOf r → o ≡ x → z ≡ cond (stays true x 0 r) y z
+row-left x r y z o e h = sym (ap (λ (b : Bool). cond (not b) y z) (eq-eqb (ownerOf r) x (sym e ∙ h)))
+
+pub row-stays : (x : ℕ) (r : List ℕ) (w y z : List ℕ) (o : ℕ) → o ≡ ownerOf r → (o ≡ x → ⊥) → w ≡ y → w ≡ cond (stays true x 0 r) y z
+row-stays x r w y z o e h q = q ∙ sym (ap (λ (b : Bool). cond (not b) y z) (ne-eqb (ownerOf r) x (λ g. h (e ∙ g))))
+
 -- the order after the entry of a row's page
 pub freed-page : (frames : ℕ) (t r : List ℕ) (p e : ℕ) (o o′ : List ℕ) → p ≡ pageOf r → e ≡ getD t (35 + frames + p) 0 → o′ ≡ freedOf e o → o′ ≡ freedOf (getD t (entryAt frames (pageOf r)) 0) o
 freed-page frames t r p e o o′ g h q = q ∙ ap (λ (k : ℕ). freedOf k o) (h ∙ ap (λ (k : ℕ). getD t (35 + frames + k) 0) g)
 
--- the tables with the entry of a row's page
-pub judged-page : (frames : ℕ) (k : List (List ℕ)) (t t′ r : List ℕ) (p e : ℕ) → p ≡ pageOf r → e ≡ cond (any (onPage p) k) 1 0 → t′ ≡ set t (35 + frames + p) e → t′ ≡ set t (entryAt frames (pageOf r)) (cond (any (onPage (pageOf r)) k) 1 0)
-judged-page frames k t t′ r p e g h q =
-    q ∙ ap (λ (v : ℕ). set t (35 + frames + p) v) h ∙ ap (λ (v : ℕ). set t (35 + frames + v) (cond (any (onPage v) k) 1 0)) g
+-- the marks of rows: a page below 1024 is marked exactly if one of the rows is of it
+marked-page : (k : List (List ℕ)) (a : List ℕ) (p : ℕ) → p < 1024 → a ≡ markPages k (replicate 1024 0) → eqb (getD a p 0) 1 ≡ any (onPage p) k
+marked-page k a p h e =
+    let n : length {A = ℕ} (replicate 1024 0) ≡ 1024 = length-replicate {A = ℕ} 1024 0 in
+    let q : p < length {A = ℕ} (replicate 1024 0) = rw n h in
+    ap (λ (x : List ℕ). eqb (getD x p 0) 1) e ∙ marked-any p k (replicate 1024 0) q ∙ rw (getD-replicate {A = ℕ} 1024 p 0 0 h)
+
+-- the entry of a page by its mark
+pub entry-marked : (a : List ℕ) (p e : ℕ) → e ≡ getD a p 0 → e ≡ 1 → _≡_ {A = ℕ} 1 (cond (eqb (getD a p 0) 1) 1 0)
+entry-marked a p e g h = sym (ap (λ (b : Bool). cond {A = ℕ} b 1 0) (eq-eqb (getD a p 0) 1 (sym g ∙ h)))
+
+pub entry-unmarked : (a : List ℕ) (p e : ℕ) → e ≡ getD a p 0 → (e ≡ 1 → ⊥) → _≡_ {A = ℕ} 0 (cond (eqb (getD a p 0) 1) 1 0)
+entry-unmarked a p e g h = sym (ap (λ (b : Bool). cond {A = ℕ} b 1 0) (ne-eqb (getD a p 0) 1 (λ q. h (g ∙ q))))
+
+-- the tables with the entry of a row's page, by the marks; a page without a mark of its own has its entry past the tables' end
+pub judged-page : (frames : ℕ) (k : List (List ℕ)) (a t t′ r : List ℕ) (p e : ℕ) → length t ≤ 35 + frames + 1024 → a ≡ markPages k (replicate 1024 0) → p ≡ pageOf r → e ≡ cond (eqb (getD a p 0) 1) 1 0 → t′ ≡ set t (35 + frames + p) e → t′ ≡ set t (entryAt frames (pageOf r)) (cond (any (onPage (pageOf r)) k) 1 0)
+judged-page frames k a t t′ r p e l m g h q =
+    q ∙ one (leb 1024 p) refl ∙ ap (λ (v : ℕ). set t (35 + frames + v) (cond (any (onPage v) k) 1 0)) g
+  where
+    one : (b : Bool) → leb 1024 p ≡ b → set t (35 + frames + p) e ≡ set t (35 + frames + p) (cond (any (onPage p) k) 1 0)
+    one true w =
+        let f : length t ≤ 35 + frames + p = omega (arith, leb-true 1024 p w) in
+        set-out t (35 + frames + p) e f ∙ past-set t (35 + frames + p) (cond (any (onPage p) k) 1 0) f
+    one false w = ap (λ (v : ℕ). set t (35 + frames + p) v) (h ∙ ap (λ (b : Bool). cond b 1 0) (marked-page k a p (leb-false 1024 p w) m))
 
 -- a loop over the rows that does something at each row of a kind: F is what all of them do, g what one does
 module _ (F : List (List ℕ) → List ℕ → List ℕ) (g : List ℕ → List ℕ → List ℕ) (none : (x : List ℕ) → F [] x ≡ x) (more : (r : List ℕ) (rs : List (List ℕ)) (x : List ℕ) → F (r ∷ rs) x ≡ F rs (g r x)) (b : List ℕ → Bool) (m : ℕ) (l : List ℕ) where
@@ -166,46 +195,27 @@ module _ (frames : ℕ) (k : List (List ℕ)) (owner m : ℕ) (l : List ℕ) whe
   pub judged-end : (i : ℕ) (x z : List ℕ) → m ≤ i → judgedAnew frames k (keep (ownedBy owner) (rows 19 (m - i) l i)) x ≡ z → x ≡ z
   judged-end = each-end (judgedAnew frames k) judgeOne judged-nil judged-cons (ownedBy owner) m l
 
--- the search for a kept row that passes a test
-module _ (b s : List ℕ → Bool) (m : ℕ) (l : List ℕ) where
-  any-one : (c : Bool) (r : List ℕ) (rs : List (List ℕ)) → any b (consIf c r rs) ≡ ((c && b r) || any b rs)
-  unfolding any
-  any-one true r rs = refl
-  any-one false r rs = refl
+-- the marks of the loop over the rows that stay
+module _ (owner m : ℕ) (l : List ℕ) where
+  abbrev markOne : List ℕ → List ℕ → List ℕ
+  markOne r a = set a (pageOf r) 1
 
-  any-rows : (i : ℕ) → i < m → any b (keep s (rows 19 (m - i) l i)) ≡ ((s (rowAt 19 l i) && b (rowAt 19 l i)) || any b (keep s (rows 19 (m - (i + 1)) l (i + 1))))
-  any-rows i h =
-      ap (λ (rs : List (List ℕ)). any b rs) (keep-rows-more s 19 m l i h)
-      ∙ any-one (s (rowAt 19 l i)) (rowAt 19 l i) (keep s (rows 19 (m - (i + 1)) l (i + 1)))
+  marked-nil : (x : List ℕ) → markPages [] x ≡ x
+  unfolding markPages
+  marked-nil x = refl
 
-  pub search-start : any b (keep s (rows 19 (m - 0) l 0)) ≡ any b (keep s (rows 19 m l 0))
-  search-start = ap (λ (rs : List (List ℕ)). any b (keep s rs)) (rows-start 19 m l)
+  marked-cons : (r : List ℕ) (rs : List (List ℕ)) (x : List ℕ) → markPages (r ∷ rs) x ≡ markPages rs (markOne r x)
+  unfolding markPages
+  marked-cons r rs x = refl
 
-  pub search-turn : (i : ℕ) (r z : Bool) → i < m → r ≡ (s (rowAt 19 l i) && b (rowAt 19 l i)) → r ≡ false → any b (keep s (rows 19 (m - i) l i)) ≡ z → any b (keep s (rows 19 (m - (i + 1)) l (i + 1))) ≡ z
-  search-turn i r z h e f p =
-      sym (ap (λ (c : Bool). c || any b (keep s (rows 19 (m - (i + 1)) l (i + 1)))) (sym e ∙ f)) ∙ sym (any-rows i h) ∙ p
+  pub marked-start : (x : List ℕ) → markPages (keep (stays true owner 0) (rows 19 (m - 0) l 0)) x ≡ markPages (keep (stays true owner 0) (rows 19 m l 0)) x
+  marked-start = each-start markPages markOne marked-nil marked-cons (stays true owner 0) m l
 
-  pub search-found : (i : ℕ) (r z : Bool) → i < m → r ≡ (s (rowAt 19 l i) && b (rowAt 19 l i)) → r ≡ true → any b (keep s (rows 19 (m - i) l i)) ≡ z → true ≡ z
-  search-found i r z h e f p =
-      sym (ap (λ (c : Bool). c || any b (keep s (rows 19 (m - (i + 1)) l (i + 1)))) (sym e ∙ f)) ∙ sym (any-rows i h) ∙ p
+  pub marked-turn : (i : ℕ) (x x′ z : List ℕ) → i < m → x′ ≡ cond (stays true owner 0 (rowAt 19 l i)) (set x (pageOf (rowAt 19 l i)) 1) x → markPages (keep (stays true owner 0) (rows 19 (m - i) l i)) x ≡ z → markPages (keep (stays true owner 0) (rows 19 (m - (i + 1)) l (i + 1))) x′ ≡ z
+  marked-turn = each-turn markPages markOne marked-nil marked-cons (stays true owner 0) m l
 
-  any-nil : any b [] ≡ false
-  unfolding any
-  any-nil = refl
-
-  pub search-none : (i : ℕ) (z : Bool) → m ≤ i → any b (keep s (rows 19 (m - i) l i)) ≡ z → false ≡ z
-  search-none i z h p = sym any-nil ∙ ap (λ (rs : List (List ℕ)). any b rs) (sym (keep-rows-end s 19 m l i h)) ∙ p
-
--- the two tests of a row from its fields
-pub stays-fields : (x p o q : ℕ) (r : List ℕ) → o ≡ ownerOf r → q ≡ pageOf r → (not (eqb o x) && eqb q p) ≡ (stays true x 0 r && onPage p r)
-stays-fields x p o q r e f = λ i. not (eqb (e i) x) && eqb (f i) p
-
--- a number chosen by a test
-pub chosen-one : (b c : Bool) → b ≡ c → b ≡ true → _≡_ {A = ℕ} 1 (cond c 1 0)
-chosen-one b c e h = sym (ap (λ (z : Bool). cond {A = ℕ} z 1 0) (sym e ∙ h))
-
-pub chosen-none : (b c : Bool) → b ≡ c → b ≡ false → _≡_ {A = ℕ} 0 (cond c 1 0)
-chosen-none b c e h = sym (ap (λ (z : Bool). cond {A = ℕ} z 1 0) (sym e ∙ h))
+  pub marked-end : (i : ℕ) (x z : List ℕ) → m ≤ i → markPages (keep (stays true owner 0) (rows 19 (m - i) l i)) x ≡ z → x ≡ z
+  marked-end = each-end markPages markOne marked-nil marked-cons (stays true owner 0) m l
 
 -- the tables once the pages of the owner's rows are judged anew and their frames have left the order
 pub pages-taken : (frames : ℕ) (k rs : List (List ℕ)) (t t₁ t₂ l o₁ o₂ : List ℕ) → o₁ ≡ l → o₂ ≡ framesFreed frames t rs o₁ → t₁ ≡ judgedAnew frames k rs t → t₂ ≡ withOrder frames o₂ t₁ → t₂ ≡ withOrder frames (framesFreed frames t rs l) (judgedAnew frames k rs t)

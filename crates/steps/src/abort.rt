@@ -1,8 +1,9 @@
 // Abort: the owner's rows go; each page that had one loses its frame, and its entry is judged anew by the rows that stay.
 ghost use mathlib.Core.Path.{_≡_};
-ghost use mathlib.Core.Bool.{true, cond, _&&_};
+ghost use mathlib.Core.Bool.{true, cond};
 ghost use Prim.Native.Nat.{_+_, _*_, _≤_, _<_};
-ghost use lib.ListN.{length, getD, set};
+ghost use lib.ListN.{length, getD, set, replicate};
+ghost use lib.Dec.{eqb};
 ghost use Rattle.record.specs.Part.{part};
 ghost use Rattle.record.specs.Rows.{rowAt, rows, keep, any, table};
 ghost use Rattle.record.specs.Record.{pageOf, onPage, ownedBy};
@@ -10,6 +11,7 @@ ghost use Rattle.order.specs.Meant.{listOf};
 ghost use Rattle.table.specs.Stays.{stays};
 ghost use Rattle.rules.specs.Lent.{liveAt, entryAt, withOrder, withCount};
 ghost use Rattle.rules.specs.Steps.{freedOf, framesFreed, judgedAnew};
+ghost use Rattle.onlinecheck.specs.Marks.{markPages};
 use number::FrameNo;
 use number::PageNo;
 use order::Order;
@@ -79,41 +81,48 @@ fn free_frames(
     o
 }
 
-// Whether row i stays and is on page p.
-fn stays_on(online: &[u8], i: usize, owner: u8, p: PageNo) -> bool
+// A mark at row i's page, if the row stays. A page past the marks has none.
+fn mark_row(marks: &mut [u8], online: &[u8], owner: u8, i: usize)
     requires { ⌜ i * 19 + 19 ≤ length (now online) ⌝ }
-    ensures { λ r. ⌜ r ≡ (stays true owner 0 (rowAt 19 (now (online .entry)) i) && onPage (p .0) (rowAt 19 (now (online .entry)) i)) ⌝ }
+    ensures { λ r. ⌜ now (marks .exit) ≡ cond (stays true owner 0 (rowAt 19 (now (online .entry)) i)) (set (now (marks .entry)) (pageOf (rowAt 19 (now (online .entry)) i)) 1) (now (marks .entry)) ⌝ }
 {
-    let q = record::page_of(online, 19, i);
-    (record::owner_of(online, i) != owner) & (q.0 == p.0)
+    if record::owner_of(online, i) == owner {
+        return;
+    }
+    let p = record::page_of(online, 19, i);
+    set_byte(marks, p.0, 1);
 }
 
-// Whether a row that stays is on page p.
-fn remains(online: &[u8], m: usize, owner: u8, p: PageNo) -> bool
+// A mark at the page of each row that stays.
+fn mark_stays(marks: &mut [u8], online: &[u8], m: usize, owner: u8)
     requires { ⌜ m * 19 ≤ length (now online) ⌝ }
-    ensures { λ r. ⌜ r ≡ any (onPage (p .0)) (keep (stays true owner 0) (rows 19 m (now (online .entry)) 0)) ⌝ }
+    ensures { λ r. ⌜ now (marks .exit) ≡ markPages (keep (stays true owner 0) (rows 19 m (now (online .entry)) 0)) (now (marks .entry)) ⌝ }
 {
     let mut i = 0;
     while i < m {
-        if stays_on(online, i, owner, PageNo(p.0)) {
-            return true;
-        }
+        mark_row(marks, online, owner, i);
         i += 1;
     }
-    false
 }
 
-// The entry of a page without a frame: evicted if rows remain, else absent.
-fn entry_anew(online: &[u8], m: usize, owner: u8, p: PageNo) -> u8
-    requires { ⌜ m * 19 ≤ length (now online) ⌝ }
-    ensures { λ r. ⌜ r ≡ cond (any (onPage (p .0)) (keep (stays true owner 0) (rows 19 m (now (online .entry)) 0))) 1 0 ⌝ }
+// The entry of a page without a frame: evicted if it is marked, else absent.
+fn entry_anew(marks: &[u8], p: PageNo) -> u8
+    ensures { λ r. ⌜ r ≡ cond (eqb (getD (now (marks .entry)) (p .0) 0) 1) 1 0 ⌝ }
 {
-    if remains(online, m, owner, p) { 1 } else { 0 }
+    if byte_at(marks, p.0) == 1 { 1 } else { 0 }
 }
 
-// The entry of row i's page judged anew, if the row is the owner's.
-fn judge_row(tables: &mut [u8], online: &[u8], frames: usize, m: usize, owner: u8, i: usize)
-    requires { ⌜ (m * 19 ≤ length (now online)) × (i < m) × (frames ≤ 64) ⌝ }
+// The entry of row i's page judged anew, if the row is the owner's. The marks are those of the rows that stay.
+fn judge_row(
+    tables: &mut [u8],
+    online: &[u8],
+    frames: usize,
+    m: usize,
+    owner: u8,
+    marks: &[u8],
+    i: usize,
+)
+    requires { ⌜ (m * 19 ≤ length (now online)) × (i < m) × (frames ≤ 64) × (length (now tables) ≤ 35 + frames + 1024) × (now marks ≡ markPages (keep (stays true owner 0) (rows 19 m (now online) 0)) (replicate 1024 0)) ⌝ }
     ensures { λ r. ⌜ now (tables .exit) ≡ cond (ownedBy owner (rowAt 19 (now (online .entry)) i)) (set (now (tables .entry)) (entryAt frames (pageOf (rowAt 19 (now (online .entry)) i))) (cond (any (onPage (pageOf (rowAt 19 (now (online .entry)) i))) (keep (stays true owner 0) (rows 19 m (now (online .entry)) 0))) 1 0)) (now (tables .entry)) ⌝ }
 {
     if record::owner_of(online, i) != owner {
@@ -121,25 +130,34 @@ fn judge_row(tables: &mut [u8], online: &[u8], frames: usize, m: usize, owner: u
     }
     let p = record::page_of(online, 19, i);
     let at = 35 + frames + p.0;
-    set_byte(tables, at, entry_anew(online, m, owner, p));
+    set_byte(tables, at, entry_anew(marks, p));
 }
 
-// The entries of the pages of the owner's rows judged anew.
-// Each of these rows has all rows looked at: marking the pages first would take one pass.
-fn judge_anew(tables: &mut [u8], online: &[u8], frames: usize, m: usize, owner: u8)
-    requires { ⌜ (m * 19 ≤ length (now online)) × (frames ≤ 64) ⌝ }
+// The entries of the pages of the owner's rows judged anew by the marks.
+fn judge_marked(tables: &mut [u8], online: &[u8], frames: usize, m: usize, owner: u8, marks: &[u8])
+    requires { ⌜ (m * 19 ≤ length (now online)) × (frames ≤ 64) × (length (now tables) ≤ 35 + frames + 1024) × (now marks ≡ markPages (keep (stays true owner 0) (rows 19 m (now online) 0)) (replicate 1024 0)) ⌝ }
     ensures { λ r. ⌜ now (tables .exit) ≡ judgedAnew frames (keep (stays true owner 0) (rows 19 m (now (online .entry)) 0)) (keep (ownedBy owner) (rows 19 m (now (online .entry)) 0)) (now (tables .entry)) ⌝ }
 {
     let mut i = 0;
     while i < m {
-        judge_row(tables, online, frames, m, owner, i);
+        judge_row(tables, online, frames, m, owner, marks, i);
         i += 1;
     }
 }
 
+// The entries of the pages of the owner's rows judged anew: one walk marks the pages of the rows that stay, one sets the entries.
+fn judge_anew(tables: &mut [u8], online: &[u8], frames: usize, m: usize, owner: u8)
+    requires { ⌜ (m * 19 ≤ length (now online)) × (frames ≤ 64) × (length (now tables) ≤ 35 + frames + 1024) ⌝ }
+    ensures { λ r. ⌜ now (tables .exit) ≡ judgedAnew frames (keep (stays true owner 0) (rows 19 m (now (online .entry)) 0)) (keep (ownedBy owner) (rows 19 m (now (online .entry)) 0)) (now (tables .entry)) ⌝ }
+{
+    let mut marks = [0u8; 1024];
+    mark_stays(&mut marks, online, m, owner);
+    judge_marked(tables, online, frames, m, owner, &marks);
+}
+
 // Each page of the owner's rows loses its frame, and its entry is judged anew.
 fn take_pages(tables: &mut [u8], online: &[u8], frames: usize, m: usize, owner: u8)
-    requires { ⌜ (35 + frames ≤ length (now tables)) × (getD (now tables) 2 0 ≤ frames) × (frames ≤ 64) × (m * 19 ≤ length (now online)) ⌝ }
+    requires { ⌜ (35 + frames ≤ length (now tables)) × (length (now tables) ≤ 35 + frames + 1024) × (getD (now tables) 2 0 ≤ frames) × (frames ≤ 64) × (m * 19 ≤ length (now online)) ⌝ }
     ensures { λ r. ⌜ now (tables .exit) ≡ withOrder frames (framesFreed frames (now (tables .entry)) (keep (ownedBy owner) (rows 19 m (now (online .entry)) 0)) (part 35 (getD (now (tables .entry)) 2 0) (now (tables .entry)))) (judgedAnew frames (keep (stays true owner 0) (rows 19 m (now (online .entry)) 0)) (keep (ownedBy owner) (rows 19 m (now (online .entry)) 0)) (now (tables .entry))) ⌝ }
 {
     let order = free_frames(
@@ -156,7 +174,7 @@ fn take_pages(tables: &mut [u8], online: &[u8], frames: usize, m: usize, owner: 
 
 // The tables and the online rows after the abort of an owner: m online rows, of which the table holds `room`.
 pub fn abort(tables: &mut [u8], online: &mut [u8], frames: usize, m: usize, room: usize, owner: u8)
-    requires { ⌜ (35 + frames ≤ length (now tables)) × (getD (now tables) 2 0 ≤ frames) × (frames ≤ 64) × (length (now online) ≡ room * 19) × (m ≤ room) × (room ≤ 512) × (owner ≤ 32) ⌝ }
+    requires { ⌜ (35 + frames ≤ length (now tables)) × (length (now tables) ≤ 35 + frames + 1024) × (getD (now tables) 2 0 ≤ frames) × (frames ≤ 64) × (length (now online) ≡ room * 19) × (m ≤ room) × (room ≤ 512) × (owner ≤ 32) ⌝ }
     ensures { λ r. ⌜ (now (tables .exit) ≡ set (withCount (length (keep (stays true owner 0) (rows 19 m (now (online .entry)) 0))) (withOrder frames (framesFreed frames (now (tables .entry)) (keep (ownedBy owner) (rows 19 m (now (online .entry)) 0)) (part 35 (getD (now (tables .entry)) 2 0) (now (tables .entry)))) (judgedAnew frames (keep (stays true owner 0) (rows 19 m (now (online .entry)) 0)) (keep (ownedBy owner) (rows 19 m (now (online .entry)) 0)) (now (tables .entry))))) (liveAt owner) 0)
         × (now (online .exit) ≡ table 19 room (keep (stays true owner 0) (rows 19 m (now (online .entry)) 0))) ⌝ }
 {

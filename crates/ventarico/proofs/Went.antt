@@ -97,16 +97,26 @@ module _ (s : Lent) (n x p offset w : ℕ) where
   abbrev r3 : Verdict
   r3 = refuseIf (not (isNumber x)) (Argument Number) r4
 
-  pub read-went : judgeRead s n x p offset w ≡ Go → (sound s ≡ true) × (p < pagesOf s) × (offset + w ≤ sizeOf s) × (w ≤ n)
+  -- every test of the chain
+  read-tests : judgeRead s n x p offset w ≡ Go → (sound s ≡ true) × (ltb p (pagesOf s) ≡ true) × (isNumber x ≡ true) × (leb (offset + w) (sizeOf s) ≡ true) × (ltb n w ≡ false) × (isLive (s .lost .tables) x ≡ true) × (held (onlineOf s) x p offset w ≡ false)
   unfolding judgeRead mayRead
-  read-went e =
+  read-tests e =
       let a = checked-went s (refuseIf (not (ltb p (pagesOf s))) (Argument Page) r3) e in
       let b = went (not (ltb p (pagesOf s))) (Argument Page) r3 (a .1) in
       let d = went (not (isNumber x)) (Argument Number) r4 (b .1) in
       let f = went (not (between 1 w (sizeOf s))) (Argument Length) r5 (d .1) in
       let g = went (not (leb (offset + w) (sizeOf s))) (Argument Place) r6 (f .1) in
       let h = went (ltb n w) ShortBuffer r7 (g .1) in
-      (a .0, ltb-true p (pagesOf s) (holds (ltb p (pagesOf s)) (b .0)), leb-true (offset + w) (sizeOf s) (holds (leb (offset + w) (sizeOf s)) (g .0)), ltb-false n w (h .0))
+      let i = went (not (isLive (s .lost .tables) x)) NotLive r8 (h .1) in
+      let j = went (held (onlineOf s) x p offset w) Held Go (i .1) in
+      (a .0, holds (ltb p (pagesOf s)) (b .0), holds (isNumber x) (d .0), holds (leb (offset + w) (sizeOf s)) (g .0), h .0, holds (isLive (s .lost .tables) x) (i .0), j .0)
+
+  pub read-went : judgeRead s n x p offset w ≡ Go → (sound s ≡ true) × (p < pagesOf s) × (offset + w ≤ sizeOf s) × (w ≤ n)
+  read-went e = let a = read-tests e in (a .0, ltb-true p (pagesOf s) (a .1), leb-true (offset + w) (sizeOf s) (a .3), ltb-false n w (a .4))
+
+  -- whose read it is, and that nobody else holds a byte of it
+  pub read-whose : judgeRead s n x p offset w ≡ Go → (isNumber x ≡ true) × (isLive (s .lost .tables) x ≡ true) × (held (onlineOf s) x p offset w ≡ false)
+  read-whose e = let a = read-tests e in (a .2, a .5, a .6)
 
 or-four : (a b c d : Bool) (n : ℕ) → (a ≡ true → n ≤ 8) → (b ≡ true → n ≤ 8) → (c ≡ true → n ≤ 8) → (d ≡ true → n ≤ 8) → (a || b || c || d) ≡ true → n ≤ 8
 or-four true b c d n f g h k e = f refl
@@ -144,9 +154,10 @@ module _ (s : Lent) (x p offset w kind v : ℕ) where
   abbrev u3 : Verdict
   u3 = refuseIf (not (isNumber x)) (Argument Number) u4
 
-  pub update-went : judgeUpdate s x p offset w kind v ≡ Go → (sound s ≡ true) × (p < pagesOf s) × (offset + w ≤ sizeOf s) × (w ≤ 8) × (countOf s < roomOf s) × (isNumber x ≡ true) × (kind ≤ 1)
+  -- every test of the chain
+  update-tests : judgeUpdate s x p offset w kind v ≡ Go → (sound s ≡ true) × (ltb p (pagesOf s) ≡ true) × (isNumber x ≡ true) × (isLength w ≡ true) × (leb (offset + w) (sizeOf s) ≡ true) × (ltb v (256 ^ w) ≡ true) × (leb kind 1 ≡ true) × (isLive (s .lost .tables) x ≡ true) × (held (onlineOf s) x p offset w ≡ false) × (ltb (roomOf s - countOf s) 1 ≡ false)
   unfolding judgeUpdate mayUpdate
-  update-went e =
+  update-tests e =
       let a = checked-went s (refuseIf (not (ltb p (pagesOf s))) (Argument Page) u3) e in
       let b = went (not (ltb p (pagesOf s))) (Argument Page) u3 (a .1) in
       let d = went (not (isNumber x)) (Argument Number) u4 (b .1) in
@@ -157,8 +168,17 @@ module _ (s : Lent) (x p offset w kind v : ℕ) where
       let j = went (not (isLive (s .lost .tables) x)) NotLive u9 (i .1) in
       let l = went (held (onlineOf s) x p offset w) Held u10 (j .1) in
       let m = went (ltb (roomOf s - countOf s) 1) OnlineFull Go (l .1) in
-      let free : 1 ≤ roomOf s - countOf s = ltb-false (roomOf s - countOf s) 1 (m .0) in
-      (a .0, ltb-true p (pagesOf s) (holds (ltb p (pagesOf s)) (b .0)), leb-true (offset + w) (sizeOf s) (holds (leb (offset + w) (sizeOf s)) (g .0)), length-most w (holds (isLength w) (f .0)), omega arith, holds (isNumber x) (d .0), leb-true kind 1 (holds (leb kind 1) (i .0)))
+      (a .0, holds (ltb p (pagesOf s)) (b .0), holds (isNumber x) (d .0), holds (isLength w) (f .0), holds (leb (offset + w) (sizeOf s)) (g .0), holds (ltb v (256 ^ w)) (h .0), holds (leb kind 1) (i .0), holds (isLive (s .lost .tables) x) (j .0), l .0, m .0)
+
+  pub update-went : judgeUpdate s x p offset w kind v ≡ Go → (sound s ≡ true) × (p < pagesOf s) × (offset + w ≤ sizeOf s) × (w ≤ 8) × (countOf s < roomOf s) × (isNumber x ≡ true) × (kind ≤ 1)
+  update-went e =
+      let a = update-tests e in
+      let free : 1 ≤ roomOf s - countOf s = ltb-false (roomOf s - countOf s) 1 (a .9) in
+      (a .0, ltb-true p (pagesOf s) (a .1), leb-true (offset + w) (sizeOf s) (a .4), length-most w (a .3), omega arith, a .2, leb-true kind 1 (a .6))
+
+  -- whose update it is, and what it writes
+  pub update-whose : judgeUpdate s x p offset w kind v ≡ Go → (isLength w ≡ true) × (v < 256 ^ w) × (isLive (s .lost .tables) x ≡ true) × (held (onlineOf s) x p offset w ≡ false)
+  update-whose e = let a = update-tests e in (a .3, ltb-true v (256 ^ w) (a .5), a .7, a .8)
 
 pub compact-went : (s : Lent) (p a b : ℕ) → judgeCompact s p a b ≡ Go → (sound s ≡ true) × (p < pagesOf s)
 unfolding judgeCompact mayCompact

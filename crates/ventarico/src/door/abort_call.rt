@@ -42,7 +42,7 @@ pub extern "C" fn ventarico_abort(
 
 // The step, with the sizes and the count read from the lent bytes.
 fn abort_owner(fixed: &[u8], tables: &mut [u8], online: &mut [u8], owner: u8)
-    requires { ⌜ (length (now fixed) ≡ 20) × (35 + num 4 (now fixed) 8 ≤ length (now tables)) × (getD (now tables) 2 0 ≤ num 4 (now fixed) 8) × (num 4 (now fixed) 8 ≤ 64) × (length (now online) ≡ 19 * num 4 (now fixed) 12) × (num 2 (now tables) 0 ≤ num 4 (now fixed) 12) × (num 4 (now fixed) 12 ≤ 512) × (owner ≤ 32) ⌝ }
+    requires { ⌜ (length (now fixed) ≡ 20) × (35 + num 4 (now fixed) 8 ≤ length (now tables)) × (length (now tables) ≤ 35 + num 4 (now fixed) 8 + 1024) × (getD (now tables) 2 0 ≤ num 4 (now fixed) 8) × (num 4 (now fixed) 8 ≤ 64) × (length (now online) ≡ 19 * num 4 (now fixed) 12) × (num 2 (now tables) 0 ≤ num 4 (now fixed) 12) × (num 4 (now fixed) 12 ≤ 512) × (owner ≤ 32) ⌝ }
     ensures { λ r. ⌜ (now (tables .exit) ≡ set (withCount (length (keep (stays true owner 0) (rows 19 (num 2 (now (tables .entry)) 0) (now (online .entry)) 0))) (withOrder (num 4 (now (fixed .entry)) 8) (framesFreed (num 4 (now (fixed .entry)) 8) (now (tables .entry)) (keep (ownedBy owner) (rows 19 (num 2 (now (tables .entry)) 0) (now (online .entry)) 0)) (part 35 (getD (now (tables .entry)) 2 0) (now (tables .entry)))) (judgedAnew (num 4 (now (fixed .entry)) 8) (keep (stays true owner 0) (rows 19 (num 2 (now (tables .entry)) 0) (now (online .entry)) 0)) (keep (ownedBy owner) (rows 19 (num 2 (now (tables .entry)) 0) (now (online .entry)) 0)) (now (tables .entry))))) (liveAt owner) 0)
         × (now (online .exit) ≡ table 19 (num 4 (now (fixed .entry)) 12) (keep (stays true owner 0) (rows 19 (num 2 (now (tables .entry)) 0) (now (online .entry)) 0))) ⌝ }
 {

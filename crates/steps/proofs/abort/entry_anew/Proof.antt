@@ -1,17 +1,22 @@
--- `steps::abort::entry_anew` meets its contract: by the test.
-use Rattle.steps.proofs.Laws.{chosen-one, chosen-none}
+-- `steps::abort::entry_anew` meets its contract: the two answers are those of the test of the mark.
+use denote.Ref.{now}
+use Rattle.steps.proofs.Laws.{entry-marked, entry-unmarked}
 use borrow.Author.Needs.{needs}
 use Rattle.steps.proofs.abort.entry_anew.Statement.{statement}
 use Rattle.steps.proofs.abort.entry_anew.Tie as tie
 
-remains-requires : tie.Need-remains-requires
-remains-requires c κs = search needs
+byte-at-requires : tie.Need-byte-at-requires
+byte-at-requires c κs = search needs
 
 returns : tie.Need-returns
-returns c = chosen-one (c .before .remains .result) _ (c .before .remains .ensures) (c .if1 .taken)
+returns c =
+    let a = c .before .before .before .args in
+    entry-marked (now (a .marks)) (a .p .0) (c .before .byte-at .result) (c .before .byte-at .ensures) (c .if1 .taken)
 
 returns-2 : tie.Need-returns-2
-returns-2 c = chosen-none (c .before .remains .result) _ (c .before .remains .ensures) (c .if1 .left)
+returns-2 c =
+    let a = c .before .before .before .args in
+    entry-unmarked (now (a .marks)) (a .p .0) (c .before .byte-at .result) (c .before .byte-at .ensures) (c .if1 .left)
 
 pub entry-anew-spec : {M : Type 1} → statement M
-entry-anew-spec = tie.close (tie.spec remains-requires returns returns-2)
+entry-anew-spec = tie.close (tie.spec byte-at-requires returns returns-2)

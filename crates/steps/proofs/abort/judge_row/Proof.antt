@@ -13,7 +13,7 @@ owner-of-requires c κs = search needs
 
 returns : tie.Need-returns
 returns c =
-    let a = c .before .before .before .before .args in
+    let a = c .before .before .before .before .before .args in
     row-passed (a .owner) (rowAt 19 (now (a .online)) (a .i)) _ (now (a .tables)) (c .before .owner-of .result) (c .before .owner-of .ensures) (c .if1 .taken)
 
 page-of-requires : tie.Need-page-of-requires
@@ -36,14 +36,15 @@ same-length c = search needs
 
 returns-2 : tie.Need-returns-2
 returns-2 c =
-    let a = c .before .before .before .before .before .before .before .before .before .before .before .args in
+    let s = c .before .before .before .before .before .before .before .before .before .before .before .before in
+    let a = s .args in
     let r = rowAt 19 (now (a .online)) (a .i) in
     let w = c .before .before .before .before .before .before .before .before .owner-of in
     let p = c .before .before .before .before .before .before .page-of in
     let e = c .before .before .before .entry-anew in
     let b = c .before .before .set-byte in
     row-taken (a .owner) r (b .last .0) _ (now (a .tables)) (w .result) (w .ensures) (c .before .before .before .before .before .before .before .if1 .left)
-    (judged-page (a .frames) (keep (stays true (a .owner) 0) (rows 19 (a .m) (now (a .online)) 0)) (now (a .tables)) (b .last .0) r (p .result .0) (e .result) (p .ensures .0) (e .ensures) (b .ensures))
+    (judged-page (a .frames) (keep (stays true (a .owner) 0) (rows 19 (a .m) (now (a .online)) 0)) (now (a .marks)) (now (a .tables)) (b .last .0) r (p .result .0) (e .result) (s .pre .3) (s .pre .4) (p .ensures .0) (e .ensures) (b .ensures))
 
 pub judge-row-spec : {M : Type 1} → statement M
 judge-row-spec =

@@ -1,4 +1,4 @@
--- `steps::abort::judge_anew` meets its contract: the rows still to come do to the tables so far what all rows do to the first.
+-- `steps::abort::judge_marked` meets its contract: the rows still to come do to the tables so far what all rows do to the first.
 use Prim.Native.Nat.{_≤_, _-_}
 use mathlib.Core.Path.{_≡_}
 use mathlib.Core.Bool.{true}
@@ -10,18 +10,18 @@ use Rattle.table.specs.Stays.{stays}
 use Rattle.rules.specs.Steps.{judgedAnew}
 use Rattle.steps.proofs.Laws.{judged-start, judged-turn, judged-end}
 use borrow.Author.Needs.{needs}
-use Rattle.steps.proofs.abort.judge_anew.Statement.{statement}
-use Rattle.steps.proofs.abort.judge_anew.Tie as tie
+use Rattle.steps.proofs.abort.judge_marked.Statement.{statement}
+use Rattle.steps.proofs.abort.judge_marked.Tie as tie
 
 abbrev Inv-loop : tie.InvT-loop
-Inv-loop tables₀ online frames m owner i₀ tables i = (i ≤ m) × (length tables ≡ length tables₀) × (judgedAnew frames (keep (stays true owner 0) (rows 19 m online 0)) (keep (ownedBy owner) (rows 19 (m - i) online i)) tables ≡ judgedAnew frames (keep (stays true owner 0) (rows 19 m online 0)) (keep (ownedBy owner) (rows 19 m online 0)) tables₀)
+Inv-loop tables₀ online frames m owner marks i₀ tables i = (i ≤ m) × (length tables ≡ length tables₀) × (judgedAnew frames (keep (stays true owner 0) (rows 19 m online 0)) (keep (ownedBy owner) (rows 19 (m - i) online i)) tables ≡ judgedAnew frames (keep (stays true owner 0) (rows 19 m online 0)) (keep (ownedBy owner) (rows 19 m online 0)) tables₀)
 
 abbrev μ-loop : tie.MeasureT-loop
-μ-loop tables₀ online frames m owner i₀ tables i = m - i
+μ-loop tables₀ online frames m owner marks i₀ tables i = m - i
 
 loop-holds : tie.Need-loop-holds Inv-loop μ-loop
 loop-holds c =
-    let a = c .before .before .args in
+    let a = c .before .before .before .args in
     (search needs, search needs, judged-start (a .frames) (keep (stays true (a .owner) 0) (rows 19 (a .m) (now (a .online)) 0)) (a .owner) (a .m) (now (a .online)) (now (a .tables)))
 
 judge-row-requires : tie.Need-judge-row-requires Inv-loop μ-loop
@@ -35,7 +35,7 @@ loop-less c = search needs
 
 loop-again : tie.Need-loop-again Inv-loop μ-loop
 loop-again c =
-    let a = c .before .before .before .before .before .before .before .before .args in
+    let a = c .before .before .before .before .before .before .before .before .before .args in
     let o = c .before .before .before .before .before .loop in
     let j = c .before .before .judge-row in
     (search needs, search needs, judged-turn (a .frames) (keep (stays true (a .owner) 0) (rows 19 (a .m) (now (a .online)) 0)) (a .owner) (a .m) (now (a .online)) (o .i) (o .tables) (j .last .0) _ (c .before .before .before .before .loop-test .taken) (j .ensures) (o .inv .2))
@@ -45,12 +45,12 @@ same-length c = search needs
 
 returns : tie.Need-returns Inv-loop μ-loop
 returns c =
-    let a = c .before .before .before .before .args in
+    let a = c .before .before .before .before .before .args in
     let o = c .before .loop in
     judged-end (a .frames) (keep (stays true (a .owner) 0) (rows 19 (a .m) (now (a .online)) 0)) (a .owner) (a .m) (now (a .online)) (o .i) (o .tables) _ (c .loop-test .left) (o .inv .2)
 
-pub judge-anew-spec : {M : Type 1} → statement M
-judge-anew-spec =
+pub judge-marked-spec : {M : Type 1} → statement M
+judge-marked-spec =
     tie.close
     (tie.spec
     Inv-loop

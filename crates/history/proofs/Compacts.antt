@@ -1,0 +1,237 @@
+-- Compact keeps what is right: the page's committed records are folded into its stored page, and its frame, if it keeps one, shows the same page.
+use Prim.Native.Nat.{ℕ, _+_, _-_, _≤_, _<_}
+use native.Mathlib.Omega.{arith}
+use mathlib.Core.Path.{_≡_, refl, sym, ap, _∙_, subst}
+use mathlib.Core.Bool.{Bool, true, false, cond, not, _&&_, _||_, true≢false}
+use mathlib.Core.List.{List, [], _++_}
+use lib.ListN.{length, getD, set, length-set}
+use lib.Seq.{getD-set-same, getD-set-other}
+use lib.Dec.{eqb, leb, ltb}
+use borrow.Author.Tests.{leb-true, le-leb, ltb-true, eqb-true, eqb-false}
+use Rattle.record.specs.Rows.{keep, any}
+use Rattle.record.specs.Record.{numberOf, committed, applied, onPage, committedOn, smallest, greatest}
+use Rattle.apply.proofs.Laws.{length-applied}
+use Rattle.table.proofs.Laws.{keep-length}
+use Rattle.rules.specs.Lent.{Durable, Lent, sizeOf, pagesOf, framesOf, roomOf, spanOf, lastOf, entryOf, entriesOf, orderOf, onlineOf, inFrame, frameOf, isDirty, cleanIn, pageIn}
+use Rattle.rules.specs.Sound.{every, pairs}
+use Rattle.rules.specs.Steps.{freedOf, foldable, due, fromFrame, compactedPage, compactedEntry, compactedOrder, unfolded, compacted}
+use Rattle.onlinecheck.proofs.Rows.{and-both, every-imp}
+use Rattle.durable.proofs.Laws.{ranged}
+use Rattle.redo.proofs.Loose.{_≅_}
+use Rattle.redo.proofs.Views.{rising}
+use Rattle.redo.proofs.Numbered.{numberedFrom-committed, numberedFrom-from, numberedFrom-rising}
+use Rattle.seats.proofs.Seated.{Seated}
+use Rattle.seats.proofs.Places.{half-none, clean-frame, clean-not-dirty, seated-clean, seated-leave}
+use Rattle.readback.proofs.Extremes.{numberAtMost}
+use Rattle.readback.proofs.Pages.{page-length}
+use Rattle.readback.proofs.Seen.{livesOf}
+use Rattle.readback.proofs.Lost.{entry-whole, reads-compacted}
+use Rattle.history.specs.Past.{Past}
+use Rattle.history.proofs.Right.{Ground, DurableRight, LostRight, Right, rowsOf, uncommitted, openOf, openRow, aboveStamp}
+use Rattle.history.proofs.Settle.{settle}
+use Rattle.history.proofs.Soundly.{open-facts}
+use Rattle.history.proofs.Folding.{Folds, stays, stays-page, stays-none, folds-all, stays-other, stays-any, folded-most, above-now, fewer-above, stays-now, page-now}
+use Rattle.history.proofs.Restamped.{restamped, stamp-here, stamp-other, page-here, page-there, restamped-right}
+
+module _ {g : Ground} {done opened : List (List ℕ)} {live : ℕ → Bool} {frames : ℕ} {marks stored pool order lives entries : List ℕ} {online : List (List ℕ)}
+    (l : LostRight g done opened live frames marks stored pool order lives entries online) (p : ℕ) (k : p < g .pages) where
+  -- all of the page's records are committed
+  abbrev whole : Bool
+  whole = eqb (length (keep (committedOn p) online)) (length (keep (onPage p) online))
+
+  abbrev entry : ℕ
+  entry = getD entries p 0
+
+  entry-there : p < length entries
+  entry-there = omega (arith, l .entries-length)
+
+  -- its frame is then the stored page with its committed records
+  frame-folded : whole ≡ true → inFrame entry ≡ true → pageIn (g .size) (frameOf entry) pool ≡ applied (keep (committedOn p) online) (pageIn (g .size) p stored)
+  frame-folded w f =
+      l .frame p k f
+      ∙ ap (λ (rs : List (List ℕ)). applied rs (pageIn (g .size) p stored)) (sym (folds-all p online (eqb-true (length (keep (committedOn p) online)) (length (keep (onPage p) online)) w)))
+
+  -- so what is written is that page, whether from the frame or not
+  pub folded-written : cond (whole && inFrame entry) (pageIn (g .size) (frameOf entry) pool) (applied (keep (committedOn p) online) (pageIn (g .size) p stored)) ≡ applied (keep (committedOn p) online) (pageIn (g .size) p stored)
+  folded-written = pick whole (inFrame entry) refl refl
+    where
+      pick : (w f : Bool) → whole ≡ w → inFrame entry ≡ f → cond (w && f) (pageIn (g .size) (frameOf entry) pool) (applied (keep (committedOn p) online) (pageIn (g .size) p stored)) ≡ applied (keep (committedOn p) online) (pageIn (g .size) p stored)
+      pick true true a b = frame-folded a b
+      pick true false a b = refl
+      pick false f a b = refl
+
+  -- the marks and stored pages that compact leaves
+  module _ (ms st : List ℕ) (is : keep (stays p) online ≅ keep (aboveStamp ms) (rowsOf g done) ++ opened) (here : pageIn (g .size) p st ≡ applied (keep (committedOn p) online) (pageIn (g .size) p stored))
+      (there : (q : ℕ) → q < g .pages → (q ≡ p → ⊥) → pageIn (g .size) q st ≡ pageIn (g .size) q stored) where
+    -- the page's entry becomes e, and the use order o
+    with-entry : (e : ℕ) (o : List ℕ) → Seated frames (set entries p e) o → isDirty e ≡ any (onPage p) (keep (stays p) online)
+        → (inFrame e ≡ true → pageIn (g .size) (frameOf e) pool ≡ applied (keep (onPage p) (keep (stays p) online)) (pageIn (g .size) p st))
+        → LostRight g done opened live frames ms st pool o lives (set entries p e) (keep (stays p) online)
+    with-entry e o seat dirt shows =
+        record {
+          seated = seat;
+          entries-length = length-set entries p e ∙ l .entries-length;
+          lives-length = l .lives-length;
+          lives-bits = l .lives-bits;
+          alive = l .alive;
+          dirty = λ q h. dirty-at q h (eqb q p) refl;
+          online-is = is;
+          frame = λ q h. frame-at q h (eqb q p) refl;
+        }
+      where
+        at-page : (q : ℕ) → q ≡ p → getD (set entries p e) q 0 ≡ e
+        at-page q z = ap (λ (i : ℕ). getD (set entries p e) i 0) z ∙ getD-set-same entries p e 0 entry-there
+
+        at-other : (q : ℕ) → (q ≡ p → ⊥) → getD (set entries p e) q 0 ≡ getD entries q 0
+        at-other q n = getD-set-other entries p q e 0 n
+
+        dirty-at : (q : ℕ) → q < g .pages → (t : Bool) → eqb q p ≡ t → isDirty (getD (set entries p e) q 0) ≡ any (onPage q) (keep (stays p) online)
+        dirty-at q h true z =
+            let i : q ≡ p = eqb-true q p z in
+            ap (λ (x : ℕ). isDirty x) (at-page q i) ∙ dirt ∙ ap (λ (x : ℕ). any (onPage x) (keep (stays p) online)) (sym i)
+        dirty-at q h false z =
+            let n : q ≡ p → ⊥ = eqb-false q p z in
+            ap (λ (x : ℕ). isDirty x) (at-other q n) ∙ l .dirty q h ∙ sym (stays-any p q n online)
+
+        frame-at : (q : ℕ) → q < g .pages → (t : Bool) → eqb q p ≡ t → inFrame (getD (set entries p e) q 0) ≡ true
+            → pageIn (g .size) (frameOf (getD (set entries p e) q 0)) pool ≡ applied (keep (onPage q) (keep (stays p) online)) (pageIn (g .size) q st)
+        frame-at q h true z f =
+            let i : q ≡ p = eqb-true q p z in
+            ap (λ (x : ℕ). pageIn (g .size) (frameOf x) pool) (at-page q i)
+            ∙ shows (ap (λ (x : ℕ). inFrame x) (sym (at-page q i)) ∙ f)
+            ∙ ap (λ (x : ℕ). applied (keep (onPage x) (keep (stays p) online)) (pageIn (g .size) x st)) (sym i)
+        frame-at q h false z f =
+            let n : q ≡ p → ⊥ = eqb-false q p z in
+            ap (λ (x : ℕ). pageIn (g .size) (frameOf x) pool) (at-other q n)
+            ∙ l .frame q h (ap (λ (x : ℕ). inFrame x) (sym (at-other q n)) ∙ f)
+            ∙ ap (λ (rs : List (List ℕ)). applied rs (pageIn (g .size) q stored)) (sym (stays-other p q n online))
+            ∙ ap (λ (x : List ℕ). applied (keep (onPage q) (keep (stays p) online)) x) (sym (there q h n))
+
+    -- clean in its frame, which is the stored page
+    kept-clean : whole ≡ true → inFrame entry ≡ true → LostRight g done opened live frames ms st pool order lives (set entries p (cleanIn (frameOf entry))) (keep (stays p) online)
+    unfolding applied
+    kept-clean w f =
+        with-entry (cleanIn (frameOf entry)) order (seated-clean (l .seated) p entry-there f)
+        (clean-not-dirty (frameOf entry) ∙ ap not (sym w) ∙ sym (stays-page p online))
+        (λ z. ap (λ (x : ℕ). pageIn (g .size) x pool) (clean-frame (frameOf entry)) ∙ frame-folded w f ∙ sym here
+        ∙ ap (λ (rs : List (List ℕ)). applied rs (pageIn (g .size) p st)) (sym (stays-none p online (eqb-true (length (keep (committedOn p) online)) (length (keep (onPage p) online)) w))))
+
+    -- in no frame, evicted if a record of the page stays, else absent
+    let-go : (w : Bool) → whole ≡ w → LostRight g done opened live frames ms st pool (freedOf entry order) lives (set entries p (cond w 0 1)) (keep (stays p) online)
+    let-go w e =
+        with-entry (cond w 0 1) (freedOf entry order) (seated-leave (l .seated) p (cond w 0 1) entry-there (low w))
+        (bit w ∙ ap not (sym e) ∙ sym (stays-page p online))
+        (λ z. absurd (true≢false (sym z ∙ half-none (cond w 0 1) (low w))))
+      where
+        low : (t : Bool) → cond t 0 1 ≤ 1
+        low true = omega arith
+        low false = omega arith
+
+        bit : (t : Bool) → isDirty (cond t 0 1) ≡ not t
+        bit true = refl
+        bit false = refl
+
+    pub folded-lost : LostRight g done opened live frames ms st pool (cond (whole && inFrame entry) order (freedOf entry order)) lives (set entries p (cond (whole && inFrame entry) (cleanIn (frameOf entry)) (cond whole 0 1))) (keep (stays p) online)
+    folded-lost = pick whole (inFrame entry) refl refl
+      where
+        pick : (w f : Bool) → whole ≡ w → inFrame entry ≡ f
+            → LostRight g done opened live frames ms st pool (cond (w && f) order (freedOf entry order)) lives (set entries p (cond (w && f) (cleanIn (frameOf entry)) (cond w 0 1))) (keep (stays p) online)
+        pick true true a b = kept-clean a b
+        pick true false a b = let-go true a
+        pick false f a b = let-go false a
+
+-- something is to be folded where compact is due
+due-some : (s : Lent) (p minDel maxAge : ℕ) → due s p minDel maxAge ≡ true → 1 ≤ length (foldable s p)
+unfolding due
+due-some s p minDel maxAge h = leb-true 1 (length (foldable s p)) (and-both (leb 1 (length (foldable s p))) (leb minDel (length (foldable s p)) || leb maxAge (lastOf s - smallest 0 (foldable s p))) h .0)
+
+module _ {g : Ground} {done : List (List ℕ)} {h : Past} {s : Lent} (r : Right g done h s) (p : ℕ) (m : p < pagesOf s) (some : 1 ≤ length (foldable s p)) where
+  below : p < g .pages
+  below = omega (arith, r .durable .pages)
+
+  -- the committed updates
+  all-committed : every committed (rowsOf g done) ≡ true
+  all-committed = numberedFrom-committed (g .base + 1) (r .past .done-wide)
+
+  numbers-fit : g .base + 1 + length done ≤ 4294967296
+  numbers-fit = omega (arith, r .durable .last, r .durable .bound)
+
+  rows-rising : pairs rising (rowsOf g done) ≡ true
+  rows-rising = numberedFrom-rising (g .base + 1) (r .past .done-wide) numbers-fit
+
+  rows-most : every (numberAtMost (lastOf s)) (rowsOf g done) ≡ true
+  rows-most =
+      every-imp (λ (x : List ℕ). leb (g .base + 1) (numberOf x) && ltb (numberOf x) (g .base + 1 + length done)) (numberAtMost (lastOf s))
+      (λ x e. le-leb (numberOf x) (lastOf s) (omega (arith, r .durable .last, ltb-true (numberOf x) (g .base + 1 + length done) (and-both (leb (g .base + 1) (numberOf x)) (ltb (numberOf x) (g .base + 1 + length done)) e .1))))
+      (rowsOf g done) (numberedFrom-from (g .base + 1) (r .past .done-wide) numbers-fit)
+
+  none-committed : every uncommitted (openOf h) ≡ true
+  none-committed = every-imp (openRow g (h .live)) uncommitted (λ x e. ap not (open-facts g (h .live) x e .owned)) (openOf h) (r .past .open-rows)
+
+  -- the new stamp, and the page as it is written
+  abbrev stamp : ℕ
+  stamp = greatest 0 (foldable s p)
+
+  stamp-most : stamp ≤ lastOf s
+  stamp-most = folded-most p (aboveStamp (s .durable .marks)) (rowsOf g done) (openOf h) (onlineOf s) all-committed none-committed (r .lost .online-is) (lastOf s) rows-most
+
+  abbrev all : Bool
+  all = eqb (length (foldable s p)) (length (keep (onPage p) (onlineOf s)))
+
+  abbrev was : List ℕ
+  was = pageIn (g .size) p (s .durable .stored)
+
+  page-written : compactedPage s p ≡ applied (foldable s p) was
+  unfolding compactedPage fromFrame
+  page-written =
+      ap (λ (n : ℕ). cond (all && inFrame (entryOf s p)) (pageIn n (frameOf (entryOf s p)) (s .lost .pool)) (applied (foldable s p) (pageIn n p (s .durable .stored)))) (r .durable .size)
+      ∙ ap (λ (e : ℕ). cond (all && inFrame e) (pageIn (g .size) (frameOf e) (s .lost .pool)) (applied (foldable s p) was)) (entry-whole s p (r .whole) m)
+      ∙ folded-written (r .lost) p below
+
+  page-long : length (compactedPage s p) ≡ g .size
+  page-long = ap (λ (x : List ℕ). length x) page-written ∙ length-applied (foldable s p) was ∙ page-length (g .size) (g .pages) (s .durable .stored) (r .durable .stored) p below
+
+  -- the durable part that compact leaves
+  abbrev after : Durable
+  after = restamped (s .durable) p stamp (compactedPage s p)
+
+  folds : Folds p (s .durable .marks) (after .marks) (rowsOf g done) (openOf h) (onlineOf s)
+  folds =
+      record {
+        all-committed = all-committed;
+        none-committed = none-committed;
+        online-is = r .lost .online-is;
+        some = some;
+        here = stamp-here (r .durable) p stamp (compactedPage s p) below stamp-most page-long;
+        other = stamp-other (r .durable) p stamp (compactedPage s p) below stamp-most page-long;
+      }
+
+  compact-durable : DurableRight g done after
+  compact-durable =
+      restamped-right (r .durable) p stamp (compactedPage s p) below stamp-most page-long
+      (fewer-above folds)
+      (rw (above-now folds) (keep-length (λ (x : List ℕ). not (onPage p x)) (keep (aboveStamp (s .durable .marks)) (rowsOf g done))))
+      (page-written
+      ∙ ap (λ (x : List ℕ). applied (foldable s p) x) (r .durable .page p below)
+      ∙ page-now folds rows-rising (pageIn (g .size) p (g .start)))
+
+  -- and the lost part
+  compact-lost : LostRight g done (openOf h) (h .live) (framesOf s) (after .marks) (after .stored) (s .lost .pool) (compactedOrder s p) (livesOf s) (set (entriesOf s) p (compactedEntry s p)) (unfolded s p)
+  unfolding compactedOrder compactedEntry fromFrame
+  compact-lost =
+      subst
+      (λ (e : ℕ). LostRight g done (openOf h) (h .live) (framesOf s) (after .marks) (after .stored) (s .lost .pool) (cond (all && inFrame e) (orderOf s) (freedOf e (orderOf s))) (livesOf s) (set (entriesOf s) p (cond (all && inFrame e) (cleanIn (frameOf e)) (cond all 0 1))) (unfolded s p))
+      (sym (entry-whole s p (r .whole) m))
+      (folded-lost (r .lost) p below (after .marks) (after .stored)
+      (stays-now folds)
+      (page-here (r .durable) p stamp (compactedPage s p) below stamp-most page-long ∙ page-written)
+      (page-there (r .durable) p stamp (compactedPage s p) below stamp-most page-long))
+
+  compact-right : Right g done h (compacted s p .lent)
+  unfolding compacted
+  compact-right =
+      settle (reads-compacted s p (r .whole) (ranged (sizeOf s) (pagesOf s) (framesOf s) (roomOf s) (spanOf s) (r .durable .range) .room-most) m) (r .past) compact-durable compact-lost
+
+-- compact keeps what is right
+pub keeps-compact : {g : Ground} {done : List (List ℕ)} {h : Past} {s : Lent} (p minDel maxAge : ℕ) → p < pagesOf s → due s p minDel maxAge ≡ true → Right g done h s → Right g done h (compacted s p .lent)
+keeps-compact {s = s} p minDel maxAge m d r = compact-right r p m (due-some s p minDel maxAge d)

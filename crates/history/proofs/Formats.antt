@@ -1,0 +1,147 @@
+-- A format is right from the start: nothing is committed, nobody is live, no page is in a frame, and the stored pages are the starting pages.
+-- So every history begins with bytes that are right for it.
+use Prim.Native.Nat.{ℕ, zero, suc, _+_, _*_, _-_, _≤_}
+use native.Mathlib.Omega.{arith}
+use mathlib.Core.Path.{_≡_, refl, sym, ap, _∙_}
+use mathlib.Core.Logic.{inl}
+use mathlib.Core.Bool.{Bool, true, false, not, _&&_, false≢true}
+use mathlib.Core.List.{List, []}
+use lib.ListN.{length, getD, replicate, length-replicate, drop-of-length-le}
+use lib.Dec.{eqb}
+use borrow.Author.Tests.{eqb-true}
+use Rattle.record.specs.Rows.{keep, any}
+use Rattle.record.specs.Record.{applied}
+use Rattle.rules.specs.declared.Bad.the-variants.{Parameter, Lent as LentLength}
+use Rattle.rules.specs.declared.Refusal.the-variants.{Argument}
+use Rattle.rules.specs.declared.Verdict.the-variants.{Go}
+use Rattle.rules.specs.Lent.{Lent, framesOf, lastOf, closedOf, loggedOf, inFrame, isDirty}
+use Rattle.rules.specs.Sound.{every, inRange, exactLengths}
+use Rattle.rules.specs.Steps.{formatted}
+use Rattle.rules.specs.Calls.{refuseIf, judgeFormat}
+use Rattle.rules.proofs.Verdicts.{went, holds}
+use Rattle.onlinecheck.proofs.Rows.{and-both}
+use Rattle.redo.proofs.Loose.{still, numberedFrom}
+use Rattle.seats.proofs.Places.{seated-none}
+use Rattle.readback.proofs.Marks.{fixed-format, size-format, pages-format, frames-format, room-format, span-format, range-format, marks-format, last-format, closed-format, logged-format, stamp-format, dirty-format}
+use Rattle.readback.proofs.Log.{log-format, log-zero-format, log-length-format}
+use Rattle.readback.proofs.Lost.{reads-formatted}
+use Rattle.history.specs.Past.{fresh}
+use Rattle.history.proofs.Right.{Ground, DurableRight, LostRight, Right}
+use Rattle.history.proofs.Pasts.{past-fresh}
+use Rattle.history.proofs.Settle.{settle}
+
+-- the lengths that format asks of the lent areas
+record Lengths (s : Lent) (size pages frames room span : ℕ) : Type 0 where
+  marks : length (s .durable .marks) ≡ 12 + 8 * pages
+  log : length (s .durable .log) ≡ 14 * span
+  stored : length (s .durable .stored) ≡ size * pages
+  tables : length (s .lost .tables) ≡ 35 + frames + pages
+  online : length (s .lost .online) ≡ 19 * room
+  pool : length (s .lost .pool) ≡ size * frames
+
+lengths-of : (s : Lent) (size pages frames room span : ℕ) → exactLengths s size pages frames room span ≡ true → Lengths s size pages frames room span
+unfolding exactLengths
+lengths-of s size pages frames room span e =
+    let m : Bool = eqb (length (s .durable .marks)) (12 + 8 * pages) in
+    let l : Bool = eqb (length (s .durable .log)) (14 * span) in
+    let d : Bool = eqb (length (s .durable .stored)) (size * pages) in
+    let t : Bool = eqb (length (s .lost .tables)) (35 + frames + pages) in
+    let o : Bool = eqb (length (s .lost .online)) (19 * room) in
+    let p : Bool = eqb (length (s .lost .pool)) (size * frames) in
+    let e5 = and-both (m && l && d && t && o) p e in
+    let e4 = and-both (m && l && d && t) o (e5 .0) in
+    let e3 = and-both (m && l && d) t (e4 .0) in
+    let e2 = and-both (m && l) d (e3 .0) in
+    let e1 = and-both m l (e2 .0) in
+    record {
+      marks = eqb-true (length (s .durable .marks)) (12 + 8 * pages) (e1 .0);
+      log = eqb-true (length (s .durable .log)) (14 * span) (e1 .1);
+      stored = eqb-true (length (s .durable .stored)) (size * pages) (e2 .1);
+      tables = eqb-true (length (s .lost .tables)) (35 + frames + pages) (e3 .1);
+      online = eqb-true (length (s .lost .online)) (19 * room) (e4 .1);
+      pool = eqb-true (length (s .lost .pool)) (size * frames) (e5 .1);
+    }
+
+-- a format that is not refused: parameters in range, lent lengths exact
+format-went : (s : Lent) (size pages frames room span : ℕ) → judgeFormat s size pages frames room span ≡ Go → (inRange size pages frames room span ≡ true) × Lengths s size pages frames room span
+unfolding judgeFormat
+format-went s size pages frames room span e =
+    let fits : Bool = eqb (length (s .durable .fixed)) 20 && exactLengths s size pages frames room span in
+    let a = went (not (inRange size pages frames room span)) (Argument Parameter) (refuseIf (not fits) (Argument LentLength) Go) e in
+    let b = went (not fits) (Argument LentLength) Go (a .1) in
+    (holds (inRange size pages frames room span) (a .0), lengths-of s size pages frames room span (and-both (eqb (length (s .durable .fixed)) 20) (exactLengths s size pages frames room span) (holds fits (b .0)) .1))
+
+-- zero bytes: no number is live, and every page is absent
+zero-at : (n i : ℕ) → _≡_ {A = ℕ} (getD (replicate n 0) i 0) 0
+zero-at zero i = refl
+zero-at (suc n) zero = refl
+zero-at (suc n) (suc i) = zero-at n i
+
+lost-new : (size pages last frames : ℕ) (start marks stored pool : List ℕ)
+    → LostRight (record { size = size; pages = pages; start = start; base = last }) [] [] (λ (x : ℕ). false) frames marks stored pool [] (replicate 32 0) (replicate pages 0) []
+unfolding every any keep numberedFrom
+lost-new size pages last frames start marks stored pool =
+    record {
+      seated = seated-none frames pages;
+      entries-length = length-replicate {A = ℕ} pages 0;
+      lives-length = length-replicate {A = ℕ} 32 0;
+      lives-bits = refl;
+      alive = λ x low high. ap (λ (b : ℕ). eqb b 1) (zero-at 32 (x - 1));
+      dirty = λ p below. ap (λ (e : ℕ). isDirty e) (zero-at pages p);
+      online-is = still;
+      frame = λ p below inside. absurd (false≢true (sym (ap (λ (e : ℕ). inFrame e) (zero-at pages p)) ∙ inside));
+    }
+
+module _ (s : Lent) (size pages frames room span last : ℕ) (m : last ≤ 4294967295) (e : judgeFormat s size pages frames room span ≡ Go) where
+  abbrev ground : Ground
+  ground = record { size = size; pages = pages; start = s .durable .stored; base = last }
+
+  abbrev new : Lent
+  new = formatted s size pages frames room span last .lent
+
+  ranged : inRange size pages frames room span ≡ true
+  ranged = format-went s size pages frames room span e .0
+
+  long : Lengths s size pages frames room span
+  long = format-went s size pages frames room span e .1
+
+  -- every stamp is L, no dirty number is there, and the log is empty
+  durable-new : DurableRight ground [] (new .durable)
+  unfolding formatted every keep applied numberedFrom
+  durable-new =
+      let l : lastOf new ≡ last = last-format s size pages frames room span last ranged (long .marks) m in
+      let k : closedOf new ≡ last = closed-format s size pages frames room span last ranged (long .marks) m in
+      let n : loggedOf new ≡ 0 = logged-format s size pages frames room span last ranged (long .marks) m in
+      record {
+        fixed = fixed-format s size pages frames room span last ranged;
+        range = range-format s size pages frames room span last ranged;
+        size = size-format s size pages frames room span last ranged;
+        pages = pages-format s size pages frames room span last ranged;
+        marks = marks-format s size pages frames room span last ranged (long .marks) m ∙ long .marks;
+        log = log-length-format s size pages frames room span last ranged (long .marks) m ∙ long .log ∙ ap (λ (i : ℕ). 14 * i) (sym (span-format s size pages frames room span last ranged));
+        stored = long .stored;
+        last = omega (arith, l);
+        bound = omega (arith, l, m);
+        logged = omega (arith, n);
+        logged-done = omega (arith, n);
+        log-read = log-format s size pages frames room span last ranged (long .marks) m ∙ sym (drop-of-length-le {A = List ℕ} [] {i = 0 - loggedOf new} (omega arith));
+        log-zero = log-zero-format s size pages frames room span last ranged (long .marks) m;
+        stamps = λ p below. omega (arith, l, stamp-format s size pages frames room span last ranged (long .marks) m p below);
+        closed = omega (arith, l, k);
+        dirty = λ p below. inl (dirty-format s size pages frames room span last ranged (long .marks) m p);
+        first = omega (arith, l, k, n);
+        needed = refl;
+        entered = refl;
+        fits = omega arith;
+        page = λ p below. refl;
+      }
+
+  -- format leaves bytes that are right for a new history
+  pub format-right : Right (record { size = size; pages = pages; start = s .durable .stored; base = last }) [] (fresh size pages last (s .durable .stored)) (formatted s size pages frames room span last .lent)
+  unfolding formatted fresh keep
+  format-right =
+      settle
+      (reads-formatted s size pages frames room span last (long .tables) (long .online) (long .pool) (size-format s size pages frames room span last ranged) (pages-format s size pages frames room span last ranged) (frames-format s size pages frames room span last ranged) (room-format s size pages frames room span last ranged))
+      (past-fresh size pages last (s .durable .stored) m)
+      durable-new
+      (lost-new size pages last (framesOf new) (s .durable .stored) (new .durable .marks) (s .durable .stored) (s .lost .pool))

@@ -1,0 +1,144 @@
+-- The smallest numbers of committed online records, from which close takes the dirty numbers and what it drops from the log, over plain rows.
+-- They are numbers of updates that no stored page holds, and no such update is numbered below them, so close drops none that is needed.
+use Prim.Native.Nat.{ℕ, _≤_}
+use native.Mathlib.Omega.{arith}
+use mathlib.Core.Path.{_≡_, refl, sym, _∙_}
+use mathlib.Core.Logic.{_⊎_, inl, inr}
+use mathlib.Core.Bool.{Bool, true, false, not, _&&_, _||_}
+use mathlib.Core.List.{List, [], _∷_, _++_}
+use lib.Dec.{eqb, leb}
+use borrow.Author.Tests.{eqb-true, eq-eqb, leb-true, le-leb}
+use Rattle.record.specs.Rows.{keep, consIf, any}
+use Rattle.record.specs.Record.{pageOf, numberOf, committed, committedOn, smallest}
+use Rattle.onlinecheck.proofs.Rows.{and-both, every-imp}
+use Rattle.rules.specs.Sound.{every, between}
+use Rattle.redo.proofs.Loose.{_≅_, ≅-any, ≅-every}
+use Rattle.readback.proofs.Extremes.{hasNumber, meet, smallest-all, smallest-found, smallest-nothing, smallest-some}
+use Rattle.history.proofs.Tested.{and-in, or-left, or-right, or-of, every-append, every-two, every-kept, every-keep}
+use Rattle.history.proofs.Right.{uncommitted}
+
+-- a test of those kept, told of all
+kept-every : (a c : List ℕ → Bool) (l : List (List ℕ)) → every c (keep a l) ≡ true → every (λ (r : List ℕ). not (a r) || c r) l ≡ true
+unfolding every keep
+kept-every a c [] h = refl
+kept-every a c (r ∷ l) h = pick (a r) (kept-every a c l) h
+  where
+    pick : (t : Bool) → (every c (keep a l) ≡ true → every (λ (q : List ℕ). not (a q) || c q) l ≡ true) → every c (consIf t r (keep a l)) ≡ true → ((not t || c r) && every (λ (q : List ℕ). not (a q) || c q) l) ≡ true
+    pick true f k =
+        let e : (c r ≡ true) × (every c (keep a l) ≡ true) = and-both (c r) (every c (keep a l)) k in
+        and-in (c r) (every (λ (q : List ℕ). not (a q) || c q) l) (e .0) (f (e .1))
+    pick false f k = f k
+
+every-front : (c : List ℕ → Bool) (l m : List (List ℕ)) → every c (l ++ m) ≡ true → every c l ≡ true
+unfolding every
+every-front c [] m h = refl
+every-front c (r ∷ l) m h =
+    let e : (c r ≡ true) × (every c (l ++ m) ≡ true) = and-both (c r) (every c (l ++ m)) h in
+    and-in (c r) (every c l) (e .0) (every-front c l m (e .1))
+
+any-front : (c : List ℕ → Bool) (l m : List (List ℕ)) → any c l ≡ true → any c (l ++ m) ≡ true
+unfolding any
+any-front c [] m h = let z : _≡_ {A = ℕ} 0 1 = cc in absurd (omega arith)
+any-front c (r ∷ l) m h = pick (c r) (any-front c l m) h
+  where
+    pick : (t : Bool) → (any c l ≡ true → any c (l ++ m) ≡ true) → (t || any c l) ≡ true → (t || any c (l ++ m)) ≡ true
+    pick true f k = refl
+    pick false f k = f k
+
+-- each row is found among the rows by a test that it passes
+each-found : (c : List ℕ → Bool) (d : List ℕ → List ℕ → Bool) → ((r : List ℕ) → c r ≡ true → d r r ≡ true)
+    → (l m : List (List ℕ)) → ((t : List ℕ → Bool) → any t l ≡ true → any t m ≡ true) → every c l ≡ true → every (λ (r : List ℕ). any (d r) m) l ≡ true
+unfolding every any
+each-found c d f [] m g h = refl
+each-found c d f (r ∷ l) m g h =
+    let e : (c r ≡ true) × (every c l ≡ true) = and-both (c r) (every c l) h in
+    and-in (any (d r) m) (every (λ (q : List ℕ). any (d q) m) l)
+    (g (d r) (or-left (d r r) (any (d r) l) (f r (e .0))))
+    (each-found c d f l m (λ t k. g t (or-right (t r) (any t l) k)) (e .1))
+
+-- the smallest number of rows numbered from `first` to `last`
+least-between : (first last : ℕ) → 1 ≤ first → (l : List (List ℕ)) → every (λ (r : List ℕ). between first (numberOf r) last) l ≡ true
+    → (smallest 0 l ≡ 0) ⊎ ((first ≤ smallest 0 l) × (smallest 0 l ≤ last))
+least-between first last low [] h = inl smallest-nothing
+least-between first last low (r ∷ l) h =
+    inr (meet (λ (q : List ℕ). between first (numberOf q) last) (λ (q : List ℕ). eqb (numberOf q) (smallest 0 (r ∷ l))) (r ∷ l) h (smallest-found (r ∷ l) numbers (omega arith)) tell)
+  where
+    numbers : every hasNumber (r ∷ l) ≡ true
+    numbers = every-imp (λ (q : List ℕ). between first (numberOf q) last) hasNumber (λ q e. le-leb 1 (numberOf q) (omega (arith, leb-true first (numberOf q) (and-both (leb first (numberOf q)) (leb (numberOf q) last) e .0)))) (r ∷ l) h
+
+    tell : (q : List ℕ) → between first (numberOf q) last ≡ true → eqb (numberOf q) (smallest 0 (r ∷ l)) ≡ true → (first ≤ smallest 0 (r ∷ l)) × (smallest 0 (r ∷ l) ≤ last)
+    tell q e k =
+        let f : (leb first (numberOf q) ≡ true) × (leb (numberOf q) last ≡ true) = and-both (leb first (numberOf q)) (leb (numberOf q) last) e in
+        let n : numberOf q ≡ smallest 0 (r ∷ l) = eqb-true (numberOf q) (smallest 0 (r ∷ l)) k in
+        let a : first ≤ numberOf q = leb-true first (numberOf q) (f .0) in
+        let b : numberOf q ≤ last = leb-true (numberOf q) last (f .1) in
+        (omega arith, omega arith)
+
+-- a smallest number, and that a row is not numbered below it
+abbrev atLeast : ℕ → List ℕ → Bool
+atLeast m r = leb 1 m && leb m (numberOf r)
+
+least-below : (l : List (List ℕ)) → every hasNumber l ≡ true → every (atLeast (smallest 0 l)) l ≡ true
+unfolding every
+least-below [] h = refl
+least-below (r ∷ l) h =
+    every-imp (λ (q : List ℕ). leb (smallest 0 (r ∷ l)) (numberOf q)) (atLeast (smallest 0 (r ∷ l)))
+    (λ q e. and-in (leb 1 (smallest 0 (r ∷ l))) (leb (smallest 0 (r ∷ l)) (numberOf q)) (le-leb 1 (smallest 0 (r ∷ l)) (smallest-some (r ∷ l) h (omega arith))) e)
+    (r ∷ l) (smallest-all (r ∷ l) h)
+
+-- `above` picks the committed updates that no stored page holds: online are these, then the uncommitted ones
+module _ (above : List ℕ → Bool) (rows opened : List (List ℕ)) {online : List (List ℕ)} (is : online ≅ keep above rows ++ opened) where
+  pub online-all : (c : List ℕ → Bool) → every (λ (r : List ℕ). not (above r) || c r) rows ≡ true → every c opened ≡ true → every c online ≡ true
+  online-all c h k = ≅-every c is ∙ every-append c (keep above rows) opened (every-kept above c rows h) k
+
+  lacked-all : (c : List ℕ → Bool) → every c online ≡ true → every (λ (r : List ℕ). not (above r) || c r) rows ≡ true
+  lacked-all c h = kept-every above c rows (every-front c (keep above rows) opened (sym (≅-every c is) ∙ h))
+
+  -- the updates that no stored page holds are numbered from `first` to `last`
+  module _ (first last : ℕ) (low : 1 ≤ first) (within : every (λ (r : List ℕ). not (above r) || between first (numberOf r) last) rows ≡ true) (unset : every uncommitted opened ≡ true) where
+    -- those of one page, or all
+    module _ (d : List ℕ → Bool) (picks : (r : List ℕ) → d r ≡ true → committed r ≡ true) where
+      kept-within : every (λ (r : List ℕ). between first (numberOf r) last) (keep d online) ≡ true
+      kept-within = every-kept d (λ (r : List ℕ). between first (numberOf r) last) online (online-all (λ (r : List ℕ). not (d r) || between first (numberOf r) last)
+          (every-imp (λ (r : List ℕ). not (above r) || between first (numberOf r) last) (λ (r : List ℕ). not (above r) || (not (d r) || between first (numberOf r) last)) (λ r e. more (above r) (d r) (between first (numberOf r) last) e) rows within)
+          (every-imp uncommitted (λ (r : List ℕ). not (d r) || between first (numberOf r) last) (λ r e. passes-not r (d r) refl e) opened unset))
+        where
+          more : (a b c : Bool) → (not a || c) ≡ true → (not a || (not b || c)) ≡ true
+          more true b c h = or-right (not b) c h
+          more false b c h = refl
+
+          passes-not : (r : List ℕ) (t : Bool) → d r ≡ t → not (committed r) ≡ true → (not t || between first (numberOf r) last) ≡ true
+          passes-not r true e h = let f : committed r ≡ true = picks r e in let z : _≡_ {A = ℕ} 0 1 = cc in absurd (omega arith)
+          passes-not r false e h = refl
+
+      kept-numbered : every hasNumber (keep d online) ≡ true
+      kept-numbered = every-imp (λ (r : List ℕ). between first (numberOf r) last) hasNumber (λ r e. le-leb 1 (numberOf r) (omega (arith, leb-true first (numberOf r) (and-both (leb first (numberOf r)) (leb (numberOf r) last) e .0)))) (keep d online) kept-within
+
+      -- the smallest number of such online records: none, or one of those numbers
+      pub least-within : (smallest 0 (keep d online) ≡ 0) ⊎ ((first ≤ smallest 0 (keep d online)) × (smallest 0 (keep d online) ≤ last))
+      least-within = least-between first last low (keep d online) kept-within
+
+      least-online : every (λ (r : List ℕ). not (d r) || atLeast (smallest 0 (keep d online)) r) online ≡ true
+      least-online = kept-every d (atLeast (smallest 0 (keep d online))) online (least-below (keep d online) kept-numbered)
+
+      found-least : any d online ≡ true → 1 ≤ smallest 0 (keep d online)
+      found-least k =
+          meet (λ (r : List ℕ). not (d r) || atLeast (smallest 0 (keep d online)) r) d online least-online k
+          (λ r a e. leb-true 1 (smallest 0 (keep d online)) (and-both (leb 1 (smallest 0 (keep d online))) (leb (smallest 0 (keep d online)) (numberOf r)) (or-of (d r) (atLeast (smallest 0 (keep d online)) r) e a) .0))
+
+    module _ (all-committed : every committed rows ≡ true) where
+      -- no update that a stored page lacks is numbered below the smallest of all, and there is a smallest if there is such an update
+      pub lacked-least : every (λ (r : List ℕ). not (above r) || (leb 1 (smallest 0 (keep committed online)) && leb (smallest 0 (keep committed online)) (numberOf r))) rows ≡ true
+      lacked-least =
+          every-two committed (λ (r : List ℕ). not (above r) || (not (committed r) || atLeast (smallest 0 (keep committed online)) r)) (λ (r : List ℕ). not (above r) || atLeast (smallest 0 (keep committed online)) r)
+          (λ r e h. rw (e) at h) rows all-committed
+          (lacked-all (λ (r : List ℕ). not (committed r) || atLeast (smallest 0 (keep committed online)) r) (least-online committed (λ r e. e)))
+
+      -- and its page has a smallest
+      pub lacked-dirty : every (λ (r : List ℕ). not (above r) || leb 1 (smallest 0 (keep (committedOn (pageOf r)) online))) rows ≡ true
+      lacked-dirty = kept-every above (λ (r : List ℕ). leb 1 (smallest 0 (keep (committedOn (pageOf r)) online))) rows
+          (every-imp (λ (r : List ℕ). any (committedOn (pageOf r)) (keep above rows ++ opened)) (λ (r : List ℕ). leb 1 (smallest 0 (keep (committedOn (pageOf r)) online)))
+            (λ r e. le-leb 1 (smallest 0 (keep (committedOn (pageOf r)) online)) (found-least (committedOn (pageOf r)) (λ q k. and-both (eqb (pageOf q) (pageOf r)) (committed q) k .1) (≅-any (committedOn (pageOf r)) is ∙ e)))
+            (keep above rows)
+            (each-found committed (λ (r q : List ℕ). committedOn (pageOf r) q) (λ r e. and-in (eqb (pageOf r) (pageOf r)) (committed r) (eq-eqb (pageOf r) (pageOf r) refl) e) (keep above rows) (keep above rows ++ opened)
+              (λ t k. any-front t (keep above rows) opened k) (every-keep above committed rows all-committed)))

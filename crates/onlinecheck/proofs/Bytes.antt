@@ -1,0 +1,440 @@
+-- Laws of the bytes' marks: a page's rows that are free when their turn comes are apart, and so S13 is said page by page.
+use Prim.Native.Nat.{ℕ, zero, suc, _+_, _*_, _-_, _≤_, _<_}
+use native.Mathlib.Omega.{arith}
+use mathlib.Core.Path.{_≡_, refl, sym, ap, _∙_}
+use mathlib.Core.Bool.{Bool, true, false, cond, not, _&&_, _||_, and-true, and-false, and-assoc, or-true}
+use mathlib.Core.List.{List, [], _∷_}
+use lib.ListN.{length, getD, set, replicate, length-set, length-replicate}
+use lib.Seq.{getD-set-same, getD-set-other, set-out}
+use lib.Dec.{eqb, leb, ltb}
+use borrow.Author.Tests.{ltb-true, ltb-false, leb-true, leb-false, eqb-true, eqb-false, lt-ltb, le-ltb, le-leb, eq-eqb, ne-eqb, not-true, not-false}
+use Rattle.record.specs.Rows.{keep, consIf}
+use Rattle.record.specs.Record.{pageOf, offsetOf, lengthOf, ownerOf, numberOf, committed, shareByte, isLength, wellFormed}
+use Rattle.rules.specs.Sound.{every, pairs, upTo, between, apart}
+use Rattle.onlinecheck.specs.Online.{owned, pageBelow}
+use Rattle.onlinecheck.specs.Bytes.{openOn, placed, freeByte, markBytes, freeRow, withRow, freeRows, withRows, freePages}
+use Rattle.onlinecheck.proofs.Rows.{and-both, passed, failed, upTo-fail, upTo-turn, upTo-done}
+use Rattle.onlinecheck.proofs.Laws.{apart-all}
+
+-- two tests, each of which holds if the other does
+same-test : (x y : Bool) → (x ≡ true → y ≡ true) → (y ≡ true → x ≡ true) → x ≡ y
+same-test true y f g = sym (f refl)
+same-test false true f g = g refl
+same-test false false f g = refl
+
+not-both : (x : Bool) → x ≡ true → x ≡ false → ⊥
+not-both x a b = let z : _≡_ {A = ℕ} 0 1 = cc in omega arith
+
+-- tests of the n numbers from i on
+upTo-at : (b : ℕ → Bool) (n i k : ℕ) → i ≤ k → k < i + n → upTo b n i ≡ true → b k ≡ true
+unfolding upTo
+upTo-at b zero i k p q h = absurd (omega arith)
+upTo-at b (suc n) i k p q h = pick (eqb i k) refl (λ u. upTo-at b n (i + 1) k u (omega arith) (and-both (b i) (upTo b n (i + 1)) h .1))
+  where
+    pick : (x : Bool) → eqb i k ≡ x → (i + 1 ≤ k → b k ≡ true) → b k ≡ true
+    pick true e f = rw (eqb-true i k e) at (and-both (b i) (upTo b n (i + 1)) h .0)
+    pick false e f =
+        let d : (i ≡ k → ⊥) = eqb-false i k e in
+        f (omega arith)
+
+upTo-all : (b : ℕ → Bool) (n i : ℕ) → ((k : ℕ) → i ≤ k → k < i + n → b k ≡ true) → upTo b n i ≡ true
+unfolding upTo
+upTo-all b zero i f = refl
+upTo-all b (suc n) i f = rw (f i (omega arith) (omega arith)) (upTo-all b n (i + 1) (λ k p q. f k (omega arith) (omega arith)))
+
+upTo-not : (b : ℕ → Bool) (n i k : ℕ) → i ≤ k → k < i + n → b k ≡ false → upTo b n i ≡ false
+upTo-not b n i k p q h = pick (upTo b n i) refl
+  where
+    pick : (x : Bool) → upTo b n i ≡ x → upTo b n i ≡ false
+    pick true e = absurd (not-both (b k) (upTo-at b n i k p q e) h)
+    pick false e = e
+
+upTo-alike : (b d : ℕ → Bool) (n i : ℕ) → ((k : ℕ) → i ≤ k → k < i + n → b k ≡ d k) → upTo b n i ≡ upTo d n i
+unfolding upTo
+upTo-alike b d zero i f = refl
+upTo-alike b d (suc n) i f =
+    let e = f i (omega arith) (omega arith) in
+    let g = upTo-alike b d n (i + 1) (λ k p q. f k (omega arith) (omega arith)) in
+    rw (e, g)
+
+-- marks of n bytes from k on: outside, within, how many, how great
+mark-out : (mine n k : ℕ) (a : List ℕ) (b : ℕ) → (k ≤ b → b < k + n → ⊥) → getD (markBytes mine n k a) b 0 ≡ getD a b 0
+unfolding markBytes
+mark-out mine zero k a b h = refl
+mark-out mine (suc n) k a b h =
+    mark-out mine n (k + 1) (set a k mine) b (λ p q. h (omega arith) (omega arith))
+    ∙ getD-set-other a k b mine 0 (λ e. h (omega arith) (omega arith))
+
+mark-in : (mine n k : ℕ) (a : List ℕ) (b : ℕ) → k ≤ b → b < k + n → k + n ≤ length a → getD (markBytes mine n k a) b 0 ≡ mine
+unfolding markBytes
+mark-in mine zero k a b p q h = absurd (omega arith)
+mark-in mine (suc n) k a b p q h = pick (eqb b k) refl (λ u. mark-in mine n (k + 1) (set a k mine) b u (omega arith) (rw length-set (omega arith)))
+  where
+    pick : (x : Bool) → eqb b k ≡ x → (k + 1 ≤ b → getD (markBytes mine n (k + 1) (set a k mine)) b 0 ≡ mine) → getD (markBytes mine n (k + 1) (set a k mine)) b 0 ≡ mine
+    pick true e g =
+        let f : b ≡ k = eqb-true b k e in
+        mark-out mine n (k + 1) (set a k mine) b (λ u v. omega arith) ∙ ap (λ (x : ℕ). getD (set a k mine) x 0) f ∙ getD-set-same a k mine 0 (omega arith)
+    pick false e g =
+        let d : (b ≡ k → ⊥) = eqb-false b k e in
+        g (omega arith)
+
+mark-length : (mine n k : ℕ) (a : List ℕ) → length (markBytes mine n k a) ≡ length a
+unfolding markBytes
+mark-length mine zero k a = refl
+mark-length mine (suc n) k a = mark-length mine n (k + 1) (set a k mine) ∙ length-set a k mine
+
+set-most : (top mine k : ℕ) (a : List ℕ) → mine ≤ top → ((b : ℕ) → getD a b 0 ≤ top) → (b : ℕ) → getD (set a k mine) b 0 ≤ top
+set-most top mine k a h f b = pick (eqb b k) (ltb k (length a)) refl refl
+  where
+    pick : (x y : Bool) → eqb b k ≡ x → ltb k (length a) ≡ y → getD (set a k mine) b 0 ≤ top
+    pick false y e g = rw (getD-set-other a k b mine 0 (eqb-false b k e)) (f b)
+    pick true true e g = rw (eqb-true b k e, getD-set-same a k mine 0 (ltb-true k (length a) g)) h
+    pick true false e g = rw (set-out a k mine (ltb-false k (length a) g)) (f b)
+
+mark-most : (top mine n k : ℕ) (a : List ℕ) → mine ≤ top → ((b : ℕ) → getD a b 0 ≤ top) → (b : ℕ) → getD (markBytes mine n k a) b 0 ≤ top
+unfolding markBytes
+mark-most top mine zero k a h f b = f b
+mark-most top mine (suc n) k a h f b = mark-most top mine n (k + 1) (set a k mine) h (set-most top mine k a h f) b
+
+-- a byte: no mark above the base, the owner's own, another's
+free-low : (base mine : ℕ) (a : List ℕ) (k : ℕ) → getD a k 0 ≤ base → freeByte base mine a k ≡ true
+unfolding freeByte
+free-low base mine a k h = rw (le-ltb base (getD a k 0) h)
+
+free-own : (base mine : ℕ) (a : List ℕ) (k : ℕ) → getD a k 0 ≡ mine → freeByte base mine a k ≡ true
+unfolding freeByte
+free-own base mine a k h = rw (eq-eqb (getD a k 0) mine h, and-false)
+
+free-other : (base mine : ℕ) (a : List ℕ) (k : ℕ) → base < getD a k 0 → (getD a k 0 ≡ mine → ⊥) → freeByte base mine a k ≡ false
+unfolding freeByte
+free-other base mine a k h g = rw (lt-ltb base (getD a k 0) h, ne-eqb (getD a k 0) mine g)
+
+free-alike : (base mine : ℕ) (a d : List ℕ) (k : ℕ) → getD a k 0 ≡ getD d k 0 → freeByte base mine a k ≡ freeByte base mine d k
+unfolding freeByte
+free-alike base mine a d k h = rw h
+
+-- the bytes k to k + n get the mark base + x: what another byte, and another n bytes, then are to the owner y
+module _ (base x y k n : ℕ) (a : List ℕ) (within : k + n ≤ length a) where
+  -- a byte outside
+  with-out : (b : ℕ) → (k ≤ b → b < k + n → ⊥) → freeByte base (base + y) (markBytes (base + x) n k a) b ≡ freeByte base (base + y) a b
+  with-out b h = free-alike base (base + y) (markBytes (base + x) n k a) a b (mark-out (base + x) n k a b h)
+
+  -- a byte inside, if x is y: it was free, and is
+  with-own : x ≡ y → upTo (freeByte base (base + x) a) n k ≡ true → (b : ℕ) → freeByte base (base + y) (markBytes (base + x) n k a) b ≡ freeByte base (base + y) a b
+  with-own e h b = pick (leb k b) (ltb b (k + n)) refl refl
+    where
+      pick : (u v : Bool) → leb k b ≡ u → ltb b (k + n) ≡ v → freeByte base (base + y) (markBytes (base + x) n k a) b ≡ freeByte base (base + y) a b
+      pick false v f g = with-out b (λ p q. omega (arith, leb-false k b f))
+      pick true false f g = with-out b (λ p q. omega (arith, ltb-false b (k + n) g))
+      pick true true f g =
+          let p = leb-true k b f in
+          let q = ltb-true b (k + n) g in
+          let m : getD (markBytes (base + x) n k a) b 0 ≡ base + y = mark-in (base + x) n k a b p q within ∙ ap (λ (z : ℕ). base + z) e in
+          let s : freeByte base (base + y) a b ≡ true = ap (λ (z : ℕ). freeByte base (base + z) a b) (sym e) ∙ upTo-at (freeByte base (base + x) a) n k b p q h in
+          free-own base (base + y) (markBytes (base + x) n k a) b m ∙ sym s
+
+  -- a byte inside, if x is not y
+  with-other : 1 ≤ x → (x ≡ y → ⊥) → (b : ℕ) → k ≤ b → b < k + n → freeByte base (base + y) (markBytes (base + x) n k a) b ≡ false
+  with-other h e b p q =
+      let m : getD (markBytes (base + x) n k a) b 0 ≡ base + x = mark-in (base + x) n k a b p q within in
+      free-other base (base + y) (markBytes (base + x) n k a) b (omega arith) (λ f. e (omega arith))
+
+  -- bytes that meet them, if x is not y
+  with-clash : (o w : ℕ) → 1 ≤ x → 1 ≤ n → 1 ≤ w → (x ≡ y → ⊥) → k < o + w → o < k + n → upTo (freeByte base (base + y) (markBytes (base + x) n k a)) w o ≡ false
+  with-clash o w hx hn hw e p q = pick (leb k o) refl
+    where
+      pick : (u : Bool) → leb k o ≡ u → upTo (freeByte base (base + y) (markBytes (base + x) n k a)) w o ≡ false
+      pick true f = upTo-not (freeByte base (base + y) (markBytes (base + x) n k a)) w o o (omega arith) (omega arith) (with-other hx e o (leb-true k o f) q)
+      pick false f =
+          let g : o < k = leb-false k o f in
+          upTo-not (freeByte base (base + y) (markBytes (base + x) n k a)) w o k (omega arith) p (with-other hx e k (omega arith) (omega arith))
+
+  -- w bytes from o on are free of the marks if they were before, and y is x or no byte is among both
+  bytes-with : (o w : ℕ) → 1 ≤ x → 1 ≤ n → 1 ≤ w → upTo (freeByte base (base + x) a) n k ≡ true → upTo (freeByte base (base + y) (markBytes (base + x) n k a)) w o ≡ (upTo (freeByte base (base + y) a) w o && (eqb x y || not (ltb k (o + w) && ltb o (k + n))))
+  bytes-with o w hx hn hw h = go (eqb x y) (ltb k (o + w)) (ltb o (k + n)) refl refl refl
+    where
+      same : ((b : ℕ) → o ≤ b → b < o + w → freeByte base (base + y) (markBytes (base + x) n k a) b ≡ freeByte base (base + y) a b) → upTo (freeByte base (base + y) (markBytes (base + x) n k a)) w o ≡ (upTo (freeByte base (base + y) a) w o && true)
+      same f = upTo-alike (freeByte base (base + y) (markBytes (base + x) n k a)) (freeByte base (base + y) a) w o f ∙ sym (and-true (upTo (freeByte base (base + y) a) w o))
+
+      go : (u v z : Bool) → eqb x y ≡ u → ltb k (o + w) ≡ v → ltb o (k + n) ≡ z → upTo (freeByte base (base + y) (markBytes (base + x) n k a)) w o ≡ (upTo (freeByte base (base + y) a) w o && (eqb x y || not (ltb k (o + w) && ltb o (k + n))))
+      go true v z e f g = rw e (same (λ b p q. with-own (eqb-true x y e) h b))
+      go false true true e f g = rw (e, f, g) (with-clash o w hx hn hw (eqb-false x y e) (ltb-true k (o + w) f) (ltb-true o (k + n) g) ∙ sym (and-false (upTo (freeByte base (base + y) a) w o)))
+      go false true false e f g =
+          let d : k + n ≤ o = ltb-false o (k + n) g in
+          rw (e, f, g) (same (λ b p q. with-out b (λ r s. omega arith)))
+      go false false z e f g =
+          let d : o + w ≤ k = ltb-false k (o + w) f in
+          rw (e, f) (same (λ b p q. with-out b (λ r s. omega arith)))
+
+-- what a row that is placed has
+placed-of : (r : List ℕ) → placed r ≡ true → (1 ≤ lengthOf r) × (offsetOf r + lengthOf r ≤ 4096) × (ownerOf r ≤ 32)
+placed-of r h =
+    let a = and-both (leb 1 (lengthOf r) && leb (offsetOf r + lengthOf r) 4096) (leb (ownerOf r) 32) h in
+    let b = and-both (leb 1 (lengthOf r)) (leb (offsetOf r + lengthOf r) 4096) (a .0) in
+    (leb-true 1 (lengthOf r) (b .0), leb-true (offsetOf r + lengthOf r) 4096 (b .1), leb-true (ownerOf r) 32 (a .1))
+
+-- a row is free of the marks and of one row more, of the same page
+row-with : (p base : ℕ) (a r q : List ℕ) → length a ≡ 4096 → openOn p r ≡ true → openOn p q ≡ true → placed r ≡ true → placed q ≡ true → freeRow base a r ≡ true → freeRow base (withRow base a r) q ≡ (freeRow base a q && apart r q)
+unfolding freeRow withRow apart shareByte
+row-with p base a r q n or oq pr pq h =
+    let c = and-both (eqb (pageOf r) p) (not (committed r)) or in
+    let d = and-both (eqb (pageOf q) p) (not (committed q)) oq in
+    let u : committed r ≡ false = not-true (committed r) (c .1) in
+    let v : committed q ≡ false = not-true (committed q) (d .1) in
+    let e : pageOf r ≡ pageOf q = eqb-true (pageOf r) p (c .0) ∙ sym (eqb-true (pageOf q) p (d .0)) in
+    let f = placed-of r pr in
+    let g = placed-of q pq in
+    let x : 1 ≤ ownerOf r = pos (ownerOf r) u in
+    let k : offsetOf r + lengthOf r ≤ length a = rw n (f .1) in
+    rw (u, v, eq-eqb (pageOf r) (pageOf q) e) (bytes-with base (ownerOf r) (ownerOf q) (offsetOf r) (lengthOf r) a k (offsetOf q) (lengthOf q) x (f .0) (g .0) h)
+  where
+    pos : (x : ℕ) → eqb x 0 ≡ false → 1 ≤ x
+    pos x h = let d : (x ≡ 0 → ⊥) = eqb-false x 0 h in omega arith
+
+row-length : (base : ℕ) (a r : List ℕ) → length (withRow base a r) ≡ length a
+unfolding withRow
+row-length base a r = mark-length (base + ownerOf r) (lengthOf r) (offsetOf r) a
+
+rows-with : (p base : ℕ) (a r : List ℕ) → length a ≡ 4096 → openOn p r ≡ true → placed r ≡ true → freeRow base a r ≡ true → (l : List (List ℕ)) → every (openOn p) l ≡ true → every placed l ≡ true → every (freeRow base (withRow base a r)) l ≡ (every (freeRow base a) l && every (apart r) l)
+unfolding every
+rows-with p base a r n o h f [] g k = refl
+rows-with p base a r n o h f (q ∷ l) g k =
+    let u = and-both (openOn p q) (every (openOn p) l) g in
+    let v = and-both (placed q) (every placed l) k in
+    rw (row-with p base a r q n o (u .0) h (v .0) f, rows-with p base a r n o h f l (u .1) (v .1))
+    (swap (freeRow base a q) (apart r q) (every (freeRow base a) l) (every (apart r) l))
+  where
+    swap : (x y u v : Bool) → (x && y && (u && v)) ≡ (x && u && (y && v))
+    swap true true u v = refl
+    swap true false u v = sym (and-false u)
+    swap false y u v = refl
+
+-- each row of a page free when its turn comes: free of the marks at the start, and all apart
+rows-pairs : (p base : ℕ) (l : List (List ℕ)) (a : List ℕ) → length a ≡ 4096 → every (openOn p) l ≡ true → every placed l ≡ true → freeRows base a l ≡ (every (freeRow base a) l && pairs apart l)
+unfolding every pairs freeRows
+rows-pairs p base [] a n g k = refl
+rows-pairs p base (r ∷ l) a n g k =
+    let u = and-both (openOn p r) (every (openOn p) l) g in
+    let v = and-both (placed r) (every placed l) k in
+    pick (freeRow base a r) refl (rows-pairs p base l (withRow base a r) (row-length base a r ∙ n) (u .1) (v .1)) (λ f. rows-with p base a r n (u .0) (v .0) f l (u .1) (v .1))
+  where
+    pick : (x : Bool) → freeRow base a r ≡ x → freeRows base (withRow base a r) l ≡ (every (freeRow base (withRow base a r)) l && pairs apart l) → (freeRow base a r ≡ true → every (freeRow base (withRow base a r)) l ≡ (every (freeRow base a) l && every (apart r) l)) → (freeRow base a r && freeRows base (withRow base a r) l) ≡ (freeRow base a r && every (freeRow base a) l && (every (apart r) l && pairs apart l))
+    pick false e f h = rw e
+    pick true e f h = rw (e, f, h e) (and-assoc (every (freeRow base a) l) (every (apart r) l) (pairs apart l))
+
+-- marks that none of the page has set leave its rows free
+free-start : (base : ℕ) (a : List ℕ) → ((b : ℕ) → getD a b 0 ≤ base) → (l : List (List ℕ)) → every (freeRow base a) l ≡ true
+unfolding every freeRow
+free-start base a f [] = refl
+free-start base a f (r ∷ l) = rw (upTo-all (freeByte base (base + ownerOf r) a) (lengthOf r) (offsetOf r) (λ k p q. free-low base (base + ownerOf r) a k (f k))) (free-start base a f l)
+
+rows-apart : (p base : ℕ) (l : List (List ℕ)) (a : List ℕ) → length a ≡ 4096 → ((b : ℕ) → getD a b 0 ≤ base) → every (openOn p) l ≡ true → every placed l ≡ true → freeRows base a l ≡ pairs apart l
+rows-apart p base l a n f g k = rows-pairs p base l a n g k ∙ (rw (free-start base a f l))
+
+rows-length : (base : ℕ) (l : List (List ℕ)) (a : List ℕ) → length (withRows base a l) ≡ length a
+unfolding withRows
+rows-length base [] a = refl
+rows-length base (r ∷ l) a = rows-length base l (withRow base a r) ∙ row-length base a r
+
+rows-most : (top base : ℕ) (l : List (List ℕ)) (a : List ℕ) → base + 32 ≤ top → every placed l ≡ true → ((b : ℕ) → getD a b 0 ≤ top) → (b : ℕ) → getD (withRows base a l) b 0 ≤ top
+unfolding withRows withRow every
+rows-most top base [] a h k f b = f b
+rows-most top base (r ∷ l) a h k f b =
+    let v = and-both (placed r) (every placed l) k in
+    let o : ownerOf r ≤ 32 = placed-of r (v .0) .2 in
+    rows-most top base l (withRow base a r) h (v .1) (mark-most top (base + ownerOf r) (lengthOf r) (offsetOf r) a (omega arith) f) b
+
+-- rows that pass a test, and what all pass
+every-keep : (b d : List ℕ → Bool) (l : List (List ℕ)) → every b l ≡ true → every b (keep d l) ≡ true
+unfolding every keep
+every-keep b d [] h = refl
+every-keep b d (r ∷ l) h = pick (d r) (every-keep b d l (and-both (b r) (every b l) h .1))
+  where
+    pick : (x : Bool) → every b (keep d l) ≡ true → every b (consIf x r (keep d l)) ≡ true
+    pick true k = rw (and-both (b r) (every b l) h .0) k
+    pick false k = k
+
+keep-every : (d : List ℕ → Bool) (l : List (List ℕ)) → every d (keep d l) ≡ true
+unfolding every keep
+keep-every d [] = refl
+keep-every d (r ∷ l) = pick (d r) refl (keep-every d l)
+  where
+    pick : (x : Bool) → d r ≡ x → every d (keep d l) ≡ true → every d (consIf x r (keep d l)) ≡ true
+    pick true e k = rw e k
+    pick false e k = k
+
+-- page by page, from marks that no page from p on has set
+pages-are : (rs : List (List ℕ)) (n p : ℕ) (a : List ℕ) → length a ≡ 4096 → ((b : ℕ) → getD a b 0 ≤ p * 64) → every placed rs ≡ true → freePages rs n p a ≡ upTo (λ (q : ℕ). pairs apart (keep (openOn q) rs)) n p
+unfolding upTo freePages
+pages-are rs zero p a n f h = refl
+pages-are rs (suc k) p a n f h =
+    let l = keep (openOn p) rs in
+    let g : every placed l ≡ true = every-keep placed (openOn p) rs h in
+    let e : freeRows (p * 64) a l ≡ pairs apart l = rows-apart p (p * 64) l a n f (keep-every (openOn p) rs) g in
+    let d = pages-are rs k (p + 1) (withRows (p * 64) a l) (rows-length (p * 64) l a ∙ n) (rows-most ((p + 1) * 64) (p * 64) l a (omega arith) g (λ b. omega (arith, f b))) h in
+    rw (e, d)
+
+-- an uncommitted row is apart from all that are apart from it on its page
+apart-off : (r q : List ℕ) → openOn (pageOf r) q ≡ false → apart r q ≡ true
+unfolding apart shareByte
+apart-off r q h = pick (committed q) (eqb (pageOf q) (pageOf r)) refl refl
+  where
+    pick : (x y : Bool) → committed q ≡ x → eqb (pageOf q) (pageOf r) ≡ y → apart r q ≡ true
+    pick true y e f = rw (e, or-true)
+    pick false true e f = absurd (not-both (openOn (pageOf r) q) (rw (f, e)) h)
+    pick false false e f =
+        let d : eqb (pageOf r) (pageOf q) ≡ false = ne-eqb (pageOf r) (pageOf q) (λ w. eqb-false (pageOf q) (pageOf r) f (sym w)) in
+        rw (d, or-true)
+
+apart-page : (r : List ℕ) (l : List (List ℕ)) → every (apart r) (keep (openOn (pageOf r)) l) ≡ true → every (apart r) l ≡ true
+unfolding every keep
+apart-page r [] h = refl
+apart-page r (q ∷ l) h = pick (openOn (pageOf r) q) refl h (λ k. apart-page r l k)
+  where
+    pick : (x : Bool) → openOn (pageOf r) q ≡ x → every (apart r) (consIf x q (keep (openOn (pageOf r)) l)) ≡ true → (every (apart r) (keep (openOn (pageOf r)) l) ≡ true → every (apart r) l ≡ true) → (apart r q && every (apart r) l) ≡ true
+    pick true e k f =
+        let u = and-both (apart r q) (every (apart r) (keep (openOn (pageOf r)) l)) k in
+        rw (u .0) (f (u .1))
+    pick false e k f = rw (apart-off r q e) (f k)
+
+-- rows that are apart on each page are apart
+pages-pairs : (pages : ℕ) (l : List (List ℕ)) → every (pageBelow pages) l ≡ true → ((p : ℕ) → p < pages → pairs apart (keep (openOn p) l) ≡ true) → pairs apart l ≡ true
+unfolding every pairs keep
+pages-pairs pages [] h f = refl
+pages-pairs pages (r ∷ l) h f =
+    let u = and-both (pageBelow pages r) (every (pageBelow pages) l) h in
+    rw (head (committed r) refl (f (pageOf r) (ltb-true (pageOf r) pages (u .0)))) (pages-pairs pages l (u .1) (λ p q. tail (openOn p r) (keep (openOn p) l) (f p q)))
+  where
+    tail : (x : Bool) (k : List (List ℕ)) → pairs apart (consIf x r k) ≡ true → pairs apart k ≡ true
+    tail true k g = and-both (every (apart r) k) (pairs apart k) g .1
+    tail false k g = g
+
+    head : (x : Bool) → committed r ≡ x → pairs apart (consIf (openOn (pageOf r) r) r (keep (openOn (pageOf r)) l)) ≡ true → every (apart r) l ≡ true
+    head true e g = sym (apart-all r (ownerOf r) refl (eqb-true (ownerOf r) 0 e) l)
+    head false e g =
+        let k = rw (eq-eqb (pageOf r) (pageOf r) refl, e) at g in
+        apart-page r l (and-both (every (apart r) (keep (openOn (pageOf r)) l)) (pairs apart (keep (openOn (pageOf r)) l)) k .0)
+
+pairs-keep : (d : List ℕ → Bool) (l : List (List ℕ)) → pairs apart l ≡ true → pairs apart (keep d l) ≡ true
+unfolding pairs keep
+pairs-keep d [] h = refl
+pairs-keep d (r ∷ l) h = pick (d r) (pairs-keep d l (and-both (every (apart r) l) (pairs apart l) h .1))
+  where
+    pick : (x : Bool) → pairs apart (keep d l) ≡ true → pairs apart (consIf x r (keep d l)) ≡ true
+    pick true k = rw (every-keep (apart r) d l (and-both (every (apart r) l) (pairs apart l) h .0)) k
+    pick false k = k
+
+zeros-at : (n b : ℕ) → getD {A = ℕ} (replicate n 0) b 0 ≡ 0
+zeros-at zero b = refl
+zeros-at (suc n) zero = refl
+zeros-at (suc n) (suc b) = zeros-at n b
+
+-- S13: from no marks, rows free page by page are apart
+pub free-apart : (pages : ℕ) (rs : List (List ℕ)) (x : Bool) → every (pageBelow pages) rs ≡ true → every placed rs ≡ true → x ≡ freePages rs pages 0 (replicate 4096 0) → x ≡ pairs apart rs
+free-apart pages rs x h g e =
+    e
+    ∙ pages-are rs pages 0 (replicate 4096 0) (length-replicate {A = ℕ} 4096 0) (λ b. omega (arith, zeros-at 4096 b)) g
+    ∙ same-test (upTo (λ (p : ℕ). pairs apart (keep (openOn p) rs)) pages 0) (pairs apart rs)
+    (λ f. pages-pairs pages rs h (λ p q. upTo-at (λ (p : ℕ). pairs apart (keep (openOn p) rs)) pages 0 p (omega arith) (omega arith) f))
+    (λ f. upTo-all (λ (p : ℕ). pairs apart (keep (openOn p) rs)) pages 0 (λ p q k. pairs-keep (openOn p) rs f))
+
+-- S7 and S8 place each row
+length-some : (w : ℕ) → isLength w ≡ true → 1 ≤ w
+unfolding isLength
+length-some zero h = let z : _≡_ {A = ℕ} 0 1 = cc in absurd (omega arith)
+length-some (suc w) h = omega arith
+
+place-one : (size pages last : ℕ) (tables r : List ℕ) → size ≤ 4096 → wellFormed size pages r ≡ true → owned tables last r ≡ true → placed r ≡ true
+unfolding wellFormed owned
+place-one size pages last tables r s f k =
+    let a : ((ltb (pageOf r) pages && isLength (lengthOf r)) ≡ true) × (leb (offsetOf r + lengthOf r) size ≡ true) = and-both _ _ (and-both _ _ (and-both _ _ f .0) .0) in
+    let w : 1 ≤ lengthOf r = length-some (lengthOf r) (and-both (ltb (pageOf r) pages) (isLength (lengthOf r)) (a .0) .1) in
+    let e : offsetOf r + lengthOf r ≤ size = leb-true (offsetOf r + lengthOf r) size (a .1) in
+    let o : ownerOf r ≤ 32 = few (ownerOf r) (committed r) (numberOf r) (eqb (getD tables (2 + ownerOf r) 0) 1) refl k in
+    rw (le-leb 1 (lengthOf r) w, le-leb (offsetOf r + lengthOf r) 4096 (omega arith), le-leb (ownerOf r) 32 o)
+  where
+    few : (x : ℕ) (y : Bool) (k : ℕ) (z : Bool) → eqb x 0 ≡ y → cond y (between 1 k last) (leb x 32 && eqb k 0 && z) ≡ true → x ≤ 32
+    few x true k z e f = omega (arith, eqb-true x 0 e)
+    few x false k z e f = leb-true x 32 (and-both (leb x 32) (eqb k 0) (and-both (leb x 32 && eqb k 0) z f .0) .0)
+
+place : (size pages last : ℕ) (tables : List ℕ) → size ≤ 4096 → (l : List (List ℕ)) → every (wellFormed size pages) l ≡ true → every (owned tables last) l ≡ true → every placed l ≡ true
+unfolding every
+place size pages last tables s [] h g = refl
+place size pages last tables s (r ∷ l) h g =
+    let u = and-both (wellFormed size pages r) (every (wellFormed size pages) l) h in
+    let v = and-both (owned tables last r) (every (owned tables last) l) g in
+    rw (place-one size pages last tables r s (u .0) (v .0)) (place size pages last tables s l (u .1) (v .1))
+
+-- so the clauses of the rows by themselves give it
+pub place-give : (tables : List ℕ) (size pages last : ℕ) (l : List (List ℕ)) (x z u : Bool) → size ≤ 4096 → x ≡ (every (wellFormed size pages) l && every (owned tables last) l && z && u) → not x ≡ false → every placed l ≡ true
+place-give tables size pages last l x z u s e h =
+    let f = every (wellFormed size pages) l in
+    let o = every (owned tables last) l in
+    let b = and-both f o (and-both (f && o) z (and-both (f && o && z) u (passed e h) .0) .0) in
+    place size pages last tables s l (b .0) (b .1)
+
+-- the loop over a row's bytes: those from k on are as they were, and decide as all do
+pub record Taking (a e base mine : ℕ) (was : List ℕ) (k : ℕ) (marks : List ℕ) : Type 0 where
+  pub free : upTo (freeByte base mine was) (e - k) k ≡ upTo (freeByte base mine was) (e - a) a
+  pub marked : markBytes mine (e - k) k marks ≡ markBytes mine (e - a) a was
+  pub rest : (b : ℕ) → k ≤ b → getD marks b 0 ≡ getD was b 0
+
+pub take-none : (a e base mine : ℕ) (was : List ℕ) → Taking a e base mine was a was
+take-none a e base mine was = record { free = refl; marked = refl; rest = λ b h. refl }
+
+pub take-fail : (a e base mine : ℕ) (was : List ℕ) (k : ℕ) (marks d : List ℕ) → k < e → (ltb base (getD marks k 0) && not (eqb (getD marks k 0) mine)) ≡ true → Taking a e base mine was k marks → (false ≡ upTo (freeByte base mine was) (e - a) a) × (false ≡ true → marks ≡ d)
+unfolding freeByte
+take-fail a e base mine was k marks d h g t =
+    let f : freeByte base mine was k ≡ false = rw (t .rest k (omega arith)) at (ap not g) in (
+      upTo-fail (freeByte base mine was) e k (freeByte base mine was k) (upTo (freeByte base mine was) (e - a) a) h (ap not f) refl (t .free),
+      λ z. let y : _≡_ {A = ℕ} 0 1 = cc in absurd (omega arith),
+    )
+
+pub take-turn : (a e base mine : ℕ) (was : List ℕ) (k : ℕ) (marks : List ℕ) → k < e → (ltb base (getD marks k 0) && not (eqb (getD marks k 0) mine)) ≡ false → Taking a e base mine was k marks → Taking a e base mine was (k + 1) (set marks k mine)
+unfolding freeByte markBytes
+take-turn a e base mine was k marks h g t =
+    let f : freeByte base mine was k ≡ true = rw (t .rest k (omega arith)) at (ap not g) in
+    let n : e - k ≡ suc (e - (k + 1)) = omega arith in
+    record {
+      free = upTo-turn (freeByte base mine was) e k (freeByte base mine was k) (upTo (freeByte base mine was) (e - a) a) h (ap not f) refl (t .free);
+      marked = rw n at (t .marked);
+      rest = λ b p. getD-set-other marks k b mine 0 (λ q. omega arith) ∙ t .rest b (omega arith);
+    }
+
+pub take-done : (a e base mine : ℕ) (was : List ℕ) (k : ℕ) (marks : List ℕ) → e ≤ k → Taking a e base mine was k marks → (true ≡ upTo (freeByte base mine was) (e - a) a) × (true ≡ true → marks ≡ markBytes mine (e - a) a was)
+unfolding markBytes
+take-done a e base mine was k marks h t =
+    let n : e - k ≡ 0 = omega arith in
+    (upTo-done (freeByte base mine was) e k (upTo (freeByte base mine was) (e - a) a) h (t .free), λ z. rw n at (t .marked))
+
+-- a row, by the fields that were read
+pub row-fits : (r : List ℕ) (x a w : ℕ) → x ≡ ownerOf r → a ≡ offsetOf r → w ≡ lengthOf r → placed r ≡ true → (x ≤ 32) × (a + w ≤ 4096)
+row-fits r x a w e f g h = let k = placed-of r h in (rw e (k .2), rw (f, g) (k .1))
+
+pub row-taken : (base : ℕ) (marks d r : List ℕ) (x a w : ℕ) (y : Bool) → x ≡ ownerOf r → a ≡ offsetOf r → w ≡ lengthOf r → y ≡ upTo (freeByte base (base + x) marks) (a + w - a) a → (y ≡ true → d ≡ markBytes (base + x) (a + w - a) a marks) → (y ≡ freeRow base marks r) × (y ≡ true → d ≡ withRow base marks r)
+unfolding freeRow withRow
+row-taken base marks d r x a w y e f g h k =
+    let n : a + w - a ≡ w = omega arith in
+    (rw (← e, ← f, ← g) (rw n at h), λ t. rw (← e, ← f, ← g) (rw n at (k t)))
+
+-- the loop over the pages
+pub each-none : (rs : List (List ℕ)) (pages : ℕ) (a : List ℕ) → freePages rs (pages - 0) 0 a ≡ freePages rs pages 0 a
+each-none rs pages a = let n : pages - 0 ≡ pages = omega arith in rw n
+
+pub each-fail : (rs : List (List ℕ)) (pages p : ℕ) (a : List ℕ) (x z : Bool) → p < pages → not x ≡ true → x ≡ freeRows (p * 64) a (keep (openOn p) rs) → freePages rs (pages - p) p a ≡ z → false ≡ z
+unfolding freePages
+each-fail rs pages p a x z h n e inv =
+    let k : pages - p ≡ suc (pages - (p + 1)) = omega arith in
+    let f = failed e n in
+    rw (k, f) at inv
+
+pub each-turn : (rs : List (List ℕ)) (pages p : ℕ) (a b : List ℕ) (x z : Bool) → p < pages → not x ≡ false → x ≡ freeRows (p * 64) a (keep (openOn p) rs) → (x ≡ true → b ≡ withRows (p * 64) a (keep (openOn p) rs)) → freePages rs (pages - p) p a ≡ z → freePages rs (pages - (p + 1)) (p + 1) b ≡ z
+unfolding freePages
+each-turn rs pages p a b x z h n e g inv =
+    let k : pages - p ≡ suc (pages - (p + 1)) = omega arith in
+    let f = passed e n in
+    rw (g (not-false x n)) (rw (k, f) at inv)
+
+pub each-done : (rs : List (List ℕ)) (pages p : ℕ) (a : List ℕ) (z : Bool) → pages ≤ p → freePages rs (pages - p) p a ≡ z → true ≡ z
+unfolding freePages
+each-done rs pages p a z h inv = let k : pages - p ≡ 0 = omega arith in rw k at inv

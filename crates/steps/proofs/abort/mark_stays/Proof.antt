@@ -1,0 +1,63 @@
+-- `steps::abort::mark_stays` meets its contract: the rows still to come make of the marks so far what all rows make of the first.
+use Prim.Native.Nat.{_≤_, _-_}
+use mathlib.Core.Path.{_≡_}
+use mathlib.Core.Bool.{true}
+use lib.ListN.{length}
+use denote.Ref.{now}
+use Rattle.record.specs.Rows.{rows, keep}
+use Rattle.table.specs.Stays.{stays}
+use Rattle.onlinecheck.specs.Marks.{markPages}
+use Rattle.steps.proofs.Laws.{marked-start, marked-turn, marked-end}
+use borrow.Author.Needs.{needs}
+use Rattle.steps.proofs.abort.mark_stays.Statement.{statement}
+use Rattle.steps.proofs.abort.mark_stays.Tie as tie
+
+abbrev Inv-loop : tie.InvT-loop
+Inv-loop marks₀ online m owner i₀ marks i = (i ≤ m) × (length marks ≡ length marks₀) × (markPages (keep (stays true owner 0) (rows 19 (m - i) online i)) marks ≡ markPages (keep (stays true owner 0) (rows 19 m online 0)) marks₀)
+
+abbrev μ-loop : tie.MeasureT-loop
+μ-loop marks₀ online m owner i₀ marks i = m - i
+
+loop-holds : tie.Need-loop-holds Inv-loop μ-loop
+loop-holds c =
+    let a = c .before .before .args in
+    (search needs, search needs, marked-start (a .owner) (a .m) (now (a .online)) (now (a .marks)))
+
+mark-row-requires : tie.Need-mark-row-requires Inv-loop μ-loop
+mark-row-requires c κs = search needs
+
+add-i : tie.Need-add-i Inv-loop μ-loop
+add-i c = search needs
+
+loop-less : tie.Need-loop-less Inv-loop μ-loop
+loop-less c = search needs
+
+loop-again : tie.Need-loop-again Inv-loop μ-loop
+loop-again c =
+    let a = c .before .before .before .before .before .before .before .before .args in
+    let o = c .before .before .before .before .before .loop in
+    let j = c .before .before .mark-row in
+    (search needs, search needs, marked-turn (a .owner) (a .m) (now (a .online)) (o .i) (o .marks) (j .last .0) _ (c .before .before .before .before .loop-test .taken) (j .ensures) (o .inv .2))
+
+same-length : tie.Need-same-length Inv-loop μ-loop
+same-length c = search needs
+
+returns : tie.Need-returns Inv-loop μ-loop
+returns c =
+    let a = c .before .before .before .before .args in
+    let o = c .before .loop in
+    marked-end (a .owner) (a .m) (now (a .online)) (o .i) (o .marks) _ (c .loop-test .left) (o .inv .2)
+
+pub mark-stays-spec : {M : Type 1} → statement M
+mark-stays-spec =
+    tie.close
+    (tie.spec
+    Inv-loop
+    μ-loop
+    loop-holds
+    mark-row-requires
+    add-i
+    loop-less
+    loop-again
+    same-length
+    returns)

@@ -1,0 +1,80 @@
+-- An ordinary firmware: it lends each call what the last one left, and when the power is back it calls restart before anything else.
+use Prim.Native.Nat.{ℕ, zero, suc, _+_, _≤_}
+use mathlib.Core.Bool.{cond}
+use mathlib.Core.List.{List, [], _∷_}
+use lib.ListN.{length}
+use lib.Dec.{leb}
+use Rattle.rules.specs.declared.Answer.{Answer}
+use Rattle.rules.specs.declared.Answer.the-variants.{Done, NotDue, Refused}
+use Rattle.rules.specs.declared.Verdict.{Verdict}
+use Rattle.rules.specs.declared.Verdict.the-variants.{Go, Refuse}
+use Rattle.rules.specs.Lent.{Lent, Lost, pagesOf}
+use Rattle.rules.specs.Calls.{formatCall, judgeCheckpoint}
+use Rattle.history.specs.Past.{Past, fresh, falls}
+use Rattle.history.specs.Run.{Call, Restart, outcome, told, afterLoss, afterSteps}
+
+-- a call with any arguments; a format (its last number is 32 bits wide in C); a loss between calls; a loss inside a checkpoint, after its first j steps.
+-- `hold a i` is byte i of the lost area a (tables, online, pool) when the power is back: anything at all
+pub data Event : Type 0 where
+  Calls : Call → Event
+  Formats : (size pages frames room span last : ℕ) → last ≤ 4294967295 → Event
+  Loses : (hold : ℕ → ℕ → ℕ) → Event
+  LosesInside : (minDel maxAge j : ℕ) (hold : ℕ → ℕ → ℕ) → Event
+
+-- n bytes: f 0, f 1, and so on
+unfoldable pub bytes : ℕ → (ℕ → ℕ) → List ℕ
+bytes zero f = []
+bytes (suc n) f = f 0 ∷ bytes n (λ (i : ℕ). f (suc i))
+
+-- the lost areas, of the lengths that they had
+unfoldable pub filled : Lent → (ℕ → ℕ → ℕ) → Lost
+filled s hold =
+    record {
+      tables = bytes (length (s .lost .tables)) (hold 0);
+      online = bytes (length (s .lost .online)) (hold 1);
+      pool = bytes (length (s .lost .pool)) (hold 2);
+    }
+
+-- the history, as calls and answers tell it, and the lent bytes
+pub record Store : Type 0 where
+  pub past : Past
+  pub lent : Lent
+
+-- after a format that is accepted the history is a new one
+unfoldable pub anew : Answer → Past → Past → Past
+anew (Done counts) h k = k
+anew NotDue h k = h
+anew (Refused r) h k = h
+
+-- a store after its first format
+abbrev pub freshly : Lent → ℕ → ℕ → ℕ → ℕ → ℕ → ℕ → Store
+freshly s size pages frames room span last = record { past = fresh size pages last (s .durable .stored); lent = formatCall s size pages frames room span last .lent }
+
+-- a call: the history goes by its answer
+unfoldable pub called : Store → Call → Store
+called d c = record { past = told (d .past) c (outcome (d .lent) c .answer); lent = outcome (d .lent) c .lent }
+
+-- power is lost when the bytes are t; it is back, and restart is called
+unfoldable pub back : Past → Lent → Lost → Store
+back h t l = called (record { past = falls h; lent = afterLoss t l }) Restart
+
+-- the bytes inside a checkpoint, after its first j steps; a checkpoint that is refused, or has no such step, has left them alone
+unfoldable pub bytesInside : Verdict → ℕ → ℕ → ℕ → Lent → Lent
+bytesInside Go minDel maxAge j s = cond (leb j (pagesOf s + 1)) (afterSteps minDel maxAge j s) s
+bytesInside (Refuse r) minDel maxAge j s = s
+
+-- what the store is after an event
+unfoldable pub next : Store → Event → Store
+next d (Calls c) = called d c
+next d (Formats size pages frames room span last m) =
+    record {
+      past = anew (formatCall (d .lent) size pages frames room span last .answer) (d .past) (fresh size pages last (d .lent .durable .stored));
+      lent = formatCall (d .lent) size pages frames room span last .lent;
+    }
+next d (Loses hold) = back (d .past) (d .lent) (filled (d .lent) hold)
+next d (LosesInside minDel maxAge j hold) = back (d .past) (bytesInside (judgeCheckpoint (d .lent) minDel maxAge) minDel maxAge j (d .lent)) (filled (d .lent) hold)
+
+-- and after a day's events
+unfoldable pub day : Store → List Event → Store
+day d [] = d
+day d (e ∷ es) = day (next d e) es
