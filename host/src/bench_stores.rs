@@ -3,6 +3,7 @@
 
 use crate::areas::{Areas, Sizes};
 use crate::calls::{Call, Store};
+use crate::random::Random;
 use crate::record::{ADD, SET};
 use crate::twin::Twin;
 use std::rc::Rc;
@@ -33,11 +34,12 @@ const READ_OFFSET: u32 = 256;
 #[derive(Clone)]
 struct Maker {
     areas: Rc<Areas>,
+    lengths: Random,
 }
 
 impl Maker {
     fn new(sizes: Sizes) -> Maker {
-        let mut maker = Maker { areas: Rc::new(Areas::for_sizes(&sizes)) };
+        let mut maker = Maker { areas: Rc::new(Areas::for_sizes(&sizes)), lengths: Random::new(1) };
         maker.make(&[Call::Format { sizes, last: 0 }]);
         maker
     }
@@ -53,11 +55,17 @@ impl Maker {
         numbers.into_iter().for_each(|number| self.make(&[Call::Begin { number }]));
     }
 
+    /// A record of one of the four lengths, by chance: which it is should be no help to a branch.
+    fn record(&mut self, number: u32, page: u32, offset: u32) {
+        let length = self.lengths.pick(&[1, 2, 4, 8]);
+        self.make(&[Call::Update { number, page, offset, length, kind: ADD.into(), value: 3 }]);
+    }
+
     /// Commits so many records, a page after the other, and leaves them online.
     fn commit_spread(&mut self, count: u32) {
         let pages = self.areas.sizes().pages;
         self.begin([GONE]);
-        (0..count).for_each(|i| self.make(&[update(GONE, 1 + 7 * i % (pages - 1), 0)]));
+        (0..count).for_each(|i| self.record(GONE, 1 + 7 * i % (pages - 1), 0));
         self.make(&[Call::Commit { number: GONE }]);
     }
 
@@ -67,7 +75,7 @@ impl Maker {
             let free = self.areas.sizes().online_size - self.areas.online_count();
             let page = self.areas.sizes().pages - 1;
             self.begin([GONE]);
-            (0..free.min(logged - self.areas.logged())).for_each(|_| self.make(&[update(GONE, page, 0)]));
+            (0..free.min(logged - self.areas.logged())).for_each(|_| self.record(GONE, page, 0));
             self.make(&[Call::Commit { number: GONE }, Call::Compact { page, min_del: 1, max_age: 0 }]);
         }
     }
@@ -88,8 +96,8 @@ impl Maker {
     }
 }
 
-fn update(number: u32, page: u32, offset: u32) -> Call {
-    Call::Update { number, page, offset, length: 8, kind: ADD.into(), value: 3 }
+fn update(page: u32, offset: u32) -> Call {
+    Call::Update { number: WITH_NONE, page, offset, length: 8, kind: ADD.into(), value: 3 }
 }
 
 fn read(page: u32) -> Call {
@@ -125,14 +133,14 @@ fn each_call(sizes: Sizes) -> Vec<Situation> {
     base.fill_log(sizes.log_size - on_a_page - on_many - of_none);
     base.commit_spread(of_none);
     base.begin([ON_A_PAGE, ON_MANY, WITH_NONE].into_iter().chain(OTHERS));
-    (0..on_a_page).for_each(|i| base.make(&[update(ON_A_PAGE, 0, FIRST_OFFSET + 8 * i)]));
-    (0..on_many).for_each(|i| base.make(&[update(ON_MANY, 1 + i, 8 * ON_MANY)]));
+    (0..on_a_page).for_each(|i| base.record(ON_A_PAGE, 0, FIRST_OFFSET + 8 * i));
+    (0..on_many).for_each(|i| base.record(ON_MANY, 1 + i, 8 * ON_MANY));
     for i in 0..sizes.online_size - 1 - base.areas.online_count() {
         let number = OTHERS[i as usize % OTHERS.len()];
-        base.make(&[update(number, 1 + 5 * i % (sizes.pages - 1), 8 * number)]);
+        base.record(number, 1 + 5 * i % (sizes.pages - 1), 8 * number);
     }
     let absent = base.absent();
-    let (hit, miss) = (update(WITH_NONE, 0, READ_OFFSET), update(WITH_NONE, absent, READ_OFFSET));
+    let (hit, miss) = (update(0, READ_OFFSET), update(absent, READ_OFFSET));
     let in_frame = base.then(&[read(0)]);
     let committed = in_frame.then(&[Call::Commit { number: ON_A_PAGE }]);
     let evicted = committed.then(&[Call::Evict { page: 0 }]);
@@ -183,12 +191,12 @@ fn each_call_on_empty(sizes: Sizes) -> Vec<Situation> {
     let mut base = Maker::new(sizes);
     base.begin([WITH_NONE]);
     let in_frame = base.then(&[read(0)]);
-    let one = base.then(&[update(WITH_NONE, 0, 0)]);
+    let one = base.then(&[update(0, 0)]);
     vec![
         base.at("begin, refused 5: the check alone", Call::Begin { number: WITH_NONE }, refused(5)),
         base.at("begin", Call::Begin { number: NOT_LIVE }, DONE),
         in_frame.at("read, page in its frame", read(0), DONE),
-        in_frame.at("update, page in its frame", update(WITH_NONE, 0, 0), DONE),
+        in_frame.at("update, page in its frame", update(0, 0), DONE),
         one.at("commit, one record", Call::Commit { number: WITH_NONE }, DONE),
         one.at("abort, one record", Call::Abort { number: WITH_NONE }, DONE),
         one.at("checkpoint, nothing due", Call::Checkpoint { min_del: 1, max_age: 0 }, DONE),
@@ -224,10 +232,10 @@ pub fn online_growth(shape: Shape, online_size: u32) -> Vec<Situation> {
         base.begin(1..=8);
         for i in 0..online_size - 1 {
             let number = 1 + i % 8;
-            base.make(&[match shape {
-                Shape::OnePage => update(number, 0, 8 * i),
-                _ => update(number, 7 * i % (sizes.pages - 1), 8 * number),
-            }]);
+            match shape {
+                Shape::OnePage => base.record(number, 0, 8 * i),
+                _ => base.record(number, 7 * i % (sizes.pages - 1), 8 * number),
+            }
         }
     }
     // A page that no record is on, so that each shape meets the same.
@@ -236,7 +244,7 @@ pub fn online_growth(shape: Shape, online_size: u32) -> Vec<Situation> {
     let mut all = vec![
         base.at("begin, refused 5: the check alone", Call::Begin { number: WITH_NONE }, refused(5)),
         in_frame.at("read", read(page), DONE),
-        in_frame.at("update", update(WITH_NONE, page, 0), DONE),
+        in_frame.at("update", update(page, 0), DONE),
     ];
     all.extend(match shape {
         Shape::Committed => vec![
@@ -262,7 +270,7 @@ pub fn log_growth(log_size: u32) -> Vec<Situation> {
     base.commit_spread(32);
     base.fill_log(log_size - 8);
     base.begin([WITH_NONE]);
-    let one = base.then(&[update(WITH_NONE, 0, 0)]);
+    let one = base.then(&[update(0, 0)]);
     vec![
         base.at("begin, refused 5: the check alone", Call::Begin { number: WITH_NONE }, refused(5)),
         one.at("commit, one record", Call::Commit { number: WITH_NONE }, DONE),

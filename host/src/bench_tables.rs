@@ -12,7 +12,9 @@ use crate::twin::Twin;
 use std::process::ExitCode;
 use std::time::Instant;
 
+/// Rounds of a call, and over how many passes through a table they are spread: a machine may be slow for a while.
 const ROUNDS: usize = 21;
+const PASSES: usize = 3;
 
 /// Transactions of the ledger in a round: enough for a checkpoint.
 const LEDGER_ROUND: usize = 250;
@@ -33,19 +35,19 @@ impl<S: Store + Clone> Bench<S> {
         Bench { store, clock: clock(), progress: Progress::new("benchmark") }
     }
 
-    /// The rounds of each call, on the proved store and on the second program.
-    fn rounds(&mut self, situations: &[&Situation]) -> Result<Vec<Rounds>, String> {
+    /// Some rounds of each call, on the proved store and on the second program.
+    fn rounds(&mut self, situations: &[&Situation], rounds: usize) -> Result<Vec<Rounds>, String> {
         self.progress.tell(|| situations[0].name.clone());
         let mut stores: Stores = [&mut self.store, &mut Twin];
         let trials: Result<Vec<_>, _> = situations.iter().map(|one| Trial::new(one, &mut stores)).collect();
-        Ok(measure(&mut trials?, &mut stores, ROUNDS, self.clock))
+        Ok(measure(&mut trials?, &mut stores, rounds, self.clock))
     }
 
     /// The second program beside itself: what a ratio may be by chance.
-    fn noise(&mut self, situation: &Situation) -> Result<f64, String> {
+    fn noise(&mut self, situation: &Situation, rounds: usize) -> Result<Rounds, String> {
         let mut stores: Stores = [&mut Twin.clone(), &mut Twin];
         let trial = Trial::new(situation, &mut stores)?;
-        Ok(Cost::of(&measure(&mut [trial], &mut stores, ROUNDS, self.clock)[0]).ratio.median)
+        Ok(measure(&mut [trial], &mut stores, rounds, self.clock).remove(0))
     }
 
     /// Each call by itself, on small, medium and full tables.
@@ -57,21 +59,29 @@ impl<S: Store + Clone> Bench<S> {
                  | Call | Archive, µs | Twin, µs | Ratio | Middle half |\n|---|---|---|---|---|\n",
                 sizes.pages, sizes.page_size, sizes.frames, sizes.online_size, sizes.log_size
             );
+            let situations = make(sizes);
+            let mut rounds = vec![[Rounds::new(), Rounds::new()]; situations.len()];
+            for _ in 0..PASSES {
+                for (situation, [cost, noise]) in situations.iter().zip(&mut rounds) {
+                    cost.extend(self.rounds(&[situation], ROUNDS / PASSES)?.remove(0));
+                    noise.extend(self.noise(situation, ROUNDS / PASSES)?);
+                }
+            }
             let (mut ratios, mut noise) = (Vec::new(), Vec::new());
-            for situation in make(sizes) {
-                let cost = Cost::of(&self.rounds(&[&situation])?[0]);
+            for (situation, [cost, same]) in situations.iter().zip(&rounds) {
+                let cost = Cost::of(cost);
                 text += &row(&situation.name, &cost);
                 ratios.push(cost.ratio.median);
-                noise.push(self.noise(&situation)?);
+                noise.push(Cost::of(same).ratio.median);
             }
-            noise.sort_by(f64::total_cmp);
-            let (low, high) = (noise[0], noise[noise.len() - 1]);
+            let low = noise.iter().fold(1.0, |low, &one| f64::min(low, one));
+            let high = noise.iter().fold(1.0, |high, &one| f64::max(high, one));
             let up_to = |most: f64| ratios.iter().filter(|&&ratio| ratio <= most).count();
             text += &format!(
                 "\n{} of {} ratios are at most 1.00, {} more within the noise: the twin beside itself has {low:.2} to {high:.2}.\n",
                 up_to(1.0),
                 ratios.len(),
-                up_to(high.max(1.0)) - up_to(1.0)
+                up_to(high) - up_to(1.0)
             );
         }
         Ok(text)
@@ -82,7 +92,7 @@ impl<S: Store + Clone> Bench<S> {
         let made = sizes.map(make);
         let mut rows = Vec::new();
         for (i, situation) in made[0].iter().enumerate() {
-            rows.push((situation.name.clone(), self.rounds(&made.each_ref().map(|all| &all[i]))?));
+            rows.push((situation.name.clone(), self.rounds(&made.each_ref().map(|all| &all[i]), ROUNDS)?));
         }
         Ok(Growth { title: title.to_string(), sizes, rows })
     }
@@ -187,9 +197,9 @@ pub fn command<S: Store + Clone>(store: &S, linked: bool, words: &[String]) -> O
             write(file, &svg(&panels, 2, "across: rows in the table"))?;
             Ok(text)
         }),
-        ["flash"] => Ok(flash::table(store)),
+        ["flash"] => Ok(flash::tables(store)),
         ["flash", file] => {
-            write(file, &svg(&flash::panels(store), 3, "across: frames; k = 4")).map(|()| flash::table(store))
+            write(file, &svg(&flash::panels(store), 3, "across: frames; k = 4")).map(|()| flash::tables(store))
         }
         _ => return None,
     };

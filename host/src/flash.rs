@@ -5,13 +5,16 @@
 //! the pool's favour: undo costs it nothing, neither at an abort nor where a page leaves with uncommitted bytes.
 
 use crate::calls::Store;
-use crate::ledger::{transactions, Costs, Layout, Ledger, Transaction, FRAMES, KS, LAYOUTS, POLICY, TRANSACTIONS};
+use crate::ledger::{
+    transactions, Costs, Layout, Ledger, Policy, Transaction, FRAMES, KS, LAYOUTS, POLICY, SPREAD, TRANSACTIONS,
+};
 use crate::plot::{Line, Panel};
 use crate::progress::Progress;
 
-/// For the plot: frames, and rows of a transaction.
+/// For the plot, and for the table of policies: frames, max_age with min_del 16, and the rows of a transaction.
 const FRAMES_ACROSS: [u32; 6] = [2, 4, 8, 16, 32, 64];
-const K_ACROSS: u32 = 4;
+const MAX_AGES: [u32; 5] = [0, 256, 512, 768, 1024];
+const ONE_K: u32 = 4;
 
 /// The conventional pool.
 struct Pool {
@@ -70,32 +73,44 @@ impl Pool {
 }
 
 /// What the workload costs the store, and what it costs the pool.
-fn both<S: Store + Clone>(store: &S, layout: Layout, frames: u32, k: u32) -> [Costs; 2] {
+fn both<S: Store + Clone>(store: &S, layout: Layout, frames: u32, k: u32, policy: Policy) -> [Costs; 2] {
     let all = transactions(k, TRANSACTIONS);
-    let mut ledger = Ledger::new(store.clone(), layout, frames, POLICY);
+    let mut ledger = Ledger::new(store.clone(), layout, frames, policy);
     ledger.run_all(&all);
     let mut pool = Pool::new(layout, frames);
     all.iter().for_each(|transaction| pool.run(transaction));
     [ledger.costs, pool.costs]
 }
 
-/// A row of the table, for each 1,000 commits.
-fn row<S: Store + Clone>(store: &S, layout: Layout, k: u32) -> String {
-    let costs = both(store, layout, FRAMES, k);
+/// The cells of a row: reads, writes and log writes for each 1,000 commits.
+fn cells(costs: [Costs; 2]) -> String {
     let counts: [fn(&Costs) -> u64; 3] = [|costs| costs.reads, |costs| costs.writes, |costs| costs.logs];
-    let cells = counts.map(|count| {
+    let cell = |count: fn(&Costs) -> u64| {
         let [store, pool] = costs.map(|costs| costs.per_thousand(count(&costs)));
         format!(" {store:.0} / {pool:.0} = {:.2} |", store / pool)
-    });
-    format!("| {} | {k} |{}\n", layout.name, cells.concat())
+    };
+    counts.map(cell).concat()
 }
 
-pub fn table<S: Store + Clone>(store: &S) -> String {
+fn row<S: Store + Clone>(store: &S, layout: Layout, k: u32) -> String {
+    format!("| {} | {k} |{}\n", layout.name, cells(both(store, layout, FRAMES, k, POLICY)))
+}
+
+/// By layout and k; and for one of these by what a checkpoint is told.
+pub fn tables<S: Store + Clone>(store: &S) -> String {
     let mut progress = Progress::new("flash");
     let mut text = "| Layout | k | Page reads | Page writes | Log writes |\n|---|---|---|---|---|\n".to_string();
     for (layout, k) in LAYOUTS.into_iter().flat_map(|layout| KS.map(|k| (layout, k))) {
         progress.tell(|| format!("{}, k = {k}", layout.name));
         text += &row(store, layout, k);
+    }
+    text += &format!("\n**{}, k = {ONE_K}, by what a checkpoint is told**\n\n", SPREAD.name);
+    text += "| min_del | max_age | Page reads | Page writes | Log writes |\n|---|---|---|---|---|\n";
+    let policies = MAX_AGES.map(|max_age| Policy { max_age, ..POLICY });
+    for policy in [Policy { min_del: 1, ..POLICY }].into_iter().chain(policies) {
+        let Policy { min_del, max_age } = policy;
+        progress.tell(|| format!("max_age {max_age}"));
+        text += &format!("| {min_del} | {max_age} |{}\n", cells(both(store, SPREAD, FRAMES, ONE_K, policy)));
     }
     text
 }
@@ -106,7 +121,7 @@ pub fn panels<S: Store + Clone>(store: &S) -> Vec<Panel> {
     let panel = |layout: Layout| {
         let writes = FRAMES_ACROSS.map(|frames| {
             progress.tell(|| format!("{}, {frames} frames", layout.name));
-            both(store, layout, frames, K_ACROSS).map(|costs| costs.per_thousand(costs.writes))
+            both(store, layout, frames, ONE_K, POLICY).map(|costs| costs.per_thousand(costs.writes))
         });
         let line = |which: usize, name| Line { name, values: writes.iter().map(|both| both[which]).collect() };
         Panel {
@@ -123,7 +138,6 @@ pub fn panels<S: Store + Clone>(store: &S) -> Vec<Panel> {
 #[cfg(test)]
 mod tests {
     use super::*;
-    use crate::ledger::SPREAD;
     use crate::twin::Twin;
 
     #[test]
