@@ -6,14 +6,20 @@
 #[cfg(archive)]
 mod archive;
 mod areas;
+mod bench;
+mod bench_stores;
+mod bench_tables;
 mod calls;
 mod cases;
 mod coverage;
 mod damage;
 mod fence;
+mod flash;
 mod history;
+mod ledger;
 mod machine;
 mod pair;
+mod plot;
 mod progress;
 mod random;
 mod record;
@@ -66,7 +72,8 @@ fn usage() -> ExitCode {
          \x20      ventarico-host pairs [calls] [seed]     pairs of stores with the same transactions (default {})\n\
          \x20      ventarico-host wrong [seed]             wrong stores, each of which must be caught\n\
          \x20      ventarico-host coverage [calls] [seed]  sessions and damage, then what they have shown\n\
-         \x20      ventarico-host all [calls] [seed]       all of these",
+         \x20      ventarico-host all [calls] [seed]       all of these\n\
+         \x20      ventarico-host bench WHAT [FILE]        calls, growth, ledger, flash or quick; see host/bench",
         CALLS / PAIRS_PART
     );
     ExitCode::from(2)
@@ -74,6 +81,9 @@ fn usage() -> ExitCode {
 
 fn main() -> ExitCode {
     let words: Vec<String> = std::env::args().skip(1).collect();
+    if words.first().is_some_and(|word| word == "bench") {
+        return bench_tables::command(&Tested {}, LINKED, &words[1..]).unwrap_or_else(usage);
+    }
     let Some(numbers) =
         words.iter().skip(1).map(|word| word.replace('_', "").parse().ok()).collect::<Option<Vec<u64>>>()
     else {

@@ -129,7 +129,7 @@ fn page_table(a: &mut Areas, rows: &[[u8; ONLINE_ROW]], random: &mut Random) {
     a.tables[TABLES_HEAD..][..order.len()].copy_from_slice(&order);
 }
 
-fn shuffle<T>(items: &mut [T], random: &mut Random) {
+pub fn shuffle<T>(items: &mut [T], random: &mut Random) {
     for i in (1..items.len()).rev() {
         items.swap(i, random.below(i as u32 + 1) as usize);
     }

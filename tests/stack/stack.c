@@ -56,14 +56,25 @@ static void show(const char *name, void (*call)(void)) {
     good ? passed++ : failed++;
 }
 
-int main(void) {
-    show("format", do_format);
-    show("begin", do_begin);
-    for (unsigned i = 0; i < ONLINE - 2; i++) { /* nearly full tables, every frame in use */
+/* Nearly full tables of one transaction, every frame in use. */
+static int fill(void) {
+    for (unsigned i = 0; i < ONLINE - 2; i++) {
         page = 2 * i;
         do_update();
         if (reply.code != VENTARICO_DONE) return printf("update %u answered %u\n0 passed, 1 failed\n", i, (unsigned)reply.code), 1;
     }
+    return 0;
+}
+
+int main(void) {
+    show("format", do_format);
+    show("begin", do_begin);
+    if (fill()) return 1;
+    show("abort", do_abort); /* of nearly all rows */
+    show("begin", do_begin);
+    if (fill()) return 1;
+    page = 0;
+    show("read", do_read); /* an evicted page */
     page = 1;
     show("update", do_update);
     show("read", do_read);
@@ -75,7 +86,14 @@ int main(void) {
     show("abort", do_abort);
     show("restart", do_restart);
     page = 2;
-    show("compact", do_compact);
+    show("compact", do_compact); /* an evicted page */
+    show("begin", do_begin);
+    page = 4;
+    show("update", do_update);
+    show("compact", do_compact); /* some uncommitted */
+    page = 6;
+    show("read", do_read);
+    show("compact", do_compact); /* from its frame */
     show("close", do_close);
     show("checkpoint", do_checkpoint);
     printf("%d passed, %d failed\n", passed, failed);
