@@ -3,7 +3,7 @@ use Prim.Native.Nat.{ℕ, zero, suc, _+_, _-_, _*_, _/_, _≤_, _<_}
 use native.Mathlib.Omega.{arith}
 use native.Mathlib.Numerals.{add-one}
 use mathlib.Core.Path.{_≡_, refl, sym, ap, _∙_}
-use mathlib.Core.Bool.{Bool, true, false, cond, _&&_}
+use mathlib.Core.Bool.{Bool, true, false, cond, _&&_, and-assoc, and-true}
 use mathlib.Core.List.{List, [], _∷_}
 use lib.ListN.{length, getD, drop, set, replicate, length-set, length-replicate, getD-replicate, drop-of-length-le}
 use lib.Seq.{drop-cons, getD-set-same, getD-set-other}
@@ -20,15 +20,12 @@ every-cons : (b : ℕ → Bool) (l : List ℕ) (i : ℕ) → i < length l → ev
 unfolding every
 every-cons b l i h = rw (add-one, drop-cons l i 0 h)
 
-pub every-pass : (b : ℕ → Bool) (l : List ℕ) (i : ℕ) → i < length l → b (getD l i 0) ≡ true → every b l ≡ every b (drop i l) → every b l ≡ every b (drop (i + 1) l)
-every-pass b l i h p e = e ∙ every-cons b l i h ∙ ap (λ (x : Bool). x && every b (drop (i + 1) l)) p
+pub every-turn : (b : ℕ → Bool) (l : List ℕ) (i : ℕ) (ok : Bool) → i < length l → every b l ≡ (ok && every b (drop i l)) → every b l ≡ (ok && b (getD l i 0) && every b (drop (i + 1) l))
+every-turn b l i ok h e = e ∙ ap (λ (x : Bool). ok && x) (every-cons b l i h) ∙ sym (and-assoc ok (b (getD l i 0)) (every b (drop (i + 1) l)))
 
-pub every-fail : (b : ℕ → Bool) (l : List ℕ) (i : ℕ) → i < length l → b (getD l i 0) ≡ false → every b l ≡ every b (drop i l) → false ≡ every b l
-every-fail b l i h p e = sym (e ∙ every-cons b l i h ∙ ap (λ (x : Bool). x && every b (drop (i + 1) l)) p)
-
-pub every-done : (b : ℕ → Bool) (l : List ℕ) (i : ℕ) → length l ≤ i → every b l ≡ every b (drop i l) → true ≡ every b l
+pub every-done : (b : ℕ → Bool) (l : List ℕ) (i : ℕ) (ok : Bool) → length l ≤ i → every b l ≡ (ok && every b (drop i l)) → ok ≡ every b l
 unfolding every
-every-done b l i h e = sym (e ∙ ap (λ (x : List ℕ). every b x) (drop-of-length-le l h))
+every-done b l i ok h e = sym (e ∙ ap (λ (x : List ℕ). ok && every b x) (drop-of-length-le l h) ∙ and-true ok)
 
 -- `upTo` from i on
 upTo-cons : (b : ℕ → Bool) (n i : ℕ) → i < n → upTo b (n - i) i ≡ (b i && upTo b (n - (i + 1)) (i + 1))
@@ -147,10 +144,6 @@ unfolding count keep
 tally-done halved least l i a h t =
     let e : drop i l ≡ [] = drop-of-length-le l h in
     record { slot = λ k g p. let s : getD a k 0 + count halved k [] ≡ count halved k l = rw e at (t .slot k g p) in omega arith }
-
--- the byte that was read, tested
-pub byte-test : (w b end : ℕ) (t : Bool) → w ≡ b → ltb w end ≡ t → ltb b end ≡ t
-byte-test w b end t e h = rw e at h
 
 pub counts-same : (t : List ℕ) (frames room m u : ℕ) → m ≡ num 2 t 0 → u ≡ getD t 2 0 → (leb m room && leb u frames) ≡ (leb (num 2 t 0) room && leb (getD t 2 0) frames)
 counts-same t frames room m u a b = rw (a, b)

@@ -10,18 +10,17 @@ ghost use Rattle.rules.specs.Sound.{every, upTo, zeros, serving, times};
 ghost use Rattle.pagetable.specs.Test.{tablesTest};
 ghost use Rattle.pagetable.specs.Tally.{Tallied};
 
-// Every byte is below the end.
-fn all_below(s: &[u8], end: usize) -> bool
+// Every byte is below the end. No exit from the loop, so that many bytes are compared at a time.
+fn all_below(s: &[u8], end: u8) -> bool
     ensures { λ r. ⌜ r ≡ every (λ (b : ℕ). ltb b end) (now (s .entry)) ⌝ }
 {
+    let mut ok = true;
     let mut i = 0;
     while i < s.len() {
-        if end <= word::wide(s[i]) as usize {
-            return false;
-        }
+        ok = ok & (s[i] < end);
         i += 1;
     }
-    true
+    ok
 }
 
 // How often the order names each frame.
@@ -119,16 +118,16 @@ fn entries_within(tables: &[u8], pages: usize, frames: usize) -> bool
     ensures { λ r. ⌜ r ≡ every (λ (e : ℕ). leb (e / 2) frames) (part (35 + frames) pages (now (tables .entry))) ⌝ }
 {
     let a = 35 + frames;
-    all_below(&tables[a..], 2 * frames + 2)
+    all_below(&tables[a..], (2 * frames + 2) as u8)
 }
 
 // Neither does a place of the order.
 fn order_within(tables: &[u8], frames: usize, u: usize) -> bool
-    requires { ⌜ (35 + u ≤ length (now tables)) × (u ≤ 64) ⌝ }
+    requires { ⌜ (35 + u ≤ length (now tables)) × (u ≤ frames) × (frames ≤ 64) ⌝ }
     ensures { λ r. ⌜ r ≡ every (λ (f : ℕ). ltb f frames) (part 35 u (now (tables .entry))) ⌝ }
 {
     let e = 35 + u;
-    all_below(&tables[35..e], frames)
+    all_below(&tables[35..e], frames as u8)
 }
 
 // The places that are not in use are zero.
