@@ -3,7 +3,7 @@ use Prim.Native.Nat.{ℕ, zero, suc, _+_, _-_, _*_, _/_, _≤_, _<_}
 use native.Mathlib.Omega.{arith}
 use native.Mathlib.Numerals.{add-one}
 use mathlib.Core.Path.{_≡_, refl, sym, ap, _∙_}
-use mathlib.Core.Bool.{Bool, true, false, cond, _&&_}
+use mathlib.Core.Bool.{Bool, true, false, cond, _&&_, and-assoc, and-true}
 use mathlib.Core.List.{List, [], _∷_}
 use lib.ListN.{length, getD, drop, set, replicate, length-set, length-replicate, getD-replicate, drop-of-length-le}
 use lib.Seq.{drop-cons, getD-set-same, getD-set-other}
@@ -20,15 +20,12 @@ every-cons : (b : ℕ → Bool) (l : List ℕ) (i : ℕ) → i < length l → ev
 unfolding every
 every-cons b l i h = rw (add-one, drop-cons l i 0 h)
 
-pub every-pass : (b : ℕ → Bool) (l : List ℕ) (i : ℕ) → i < length l → b (getD l i 0) ≡ true → every b l ≡ every b (drop i l) → every b l ≡ every b (drop (i + 1) l)
-every-pass b l i h p e = e ∙ every-cons b l i h ∙ ap (λ (x : Bool). x && every b (drop (i + 1) l)) p
+pub every-turn : (b : ℕ → Bool) (l : List ℕ) (i : ℕ) (ok : Bool) → i < length l → every b l ≡ (ok && every b (drop i l)) → every b l ≡ (ok && b (getD l i 0) && every b (drop (i + 1) l))
+every-turn b l i ok h e = e ∙ ap (λ (x : Bool). ok && x) (every-cons b l i h) ∙ sym (and-assoc ok (b (getD l i 0)) (every b (drop (i + 1) l)))
 
-pub every-fail : (b : ℕ → Bool) (l : List ℕ) (i : ℕ) → i < length l → b (getD l i 0) ≡ false → every b l ≡ every b (drop i l) → false ≡ every b l
-every-fail b l i h p e = sym (e ∙ every-cons b l i h ∙ ap (λ (x : Bool). x && every b (drop (i + 1) l)) p)
-
-pub every-done : (b : ℕ → Bool) (l : List ℕ) (i : ℕ) → length l ≤ i → every b l ≡ every b (drop i l) → true ≡ every b l
+pub every-done : (b : ℕ → Bool) (l : List ℕ) (i : ℕ) (ok : Bool) → length l ≤ i → every b l ≡ (ok && every b (drop i l)) → ok ≡ every b l
 unfolding every
-every-done b l i h e = sym (e ∙ ap (λ (x : List ℕ). every b x) (drop-of-length-le l h))
+every-done b l i ok h e = sym (e ∙ ap (λ (x : List ℕ). ok && every b x) (drop-of-length-le l h) ∙ and-true ok)
 
 -- `upTo` from i on
 upTo-cons : (b : ℕ → Bool) (n i : ℕ) → i < n → upTo b (n - i) i ≡ (b i && upTo b (n - (i + 1)) (i + 1))
@@ -99,16 +96,16 @@ count-le halved k (x ∷ l) = omega (arith, count-cons halved k x l, bit (eqb (k
 count-turn : (halved : Bool) (k : ℕ) (l : List ℕ) (i : ℕ) → i < length l → count halved k (drop i l) ≡ cond (eqb (keyOf halved (getD l i 0)) k) 1 0 + count halved k (drop (i + 1) l)
 count-turn halved k l i h = rw (add-one, drop-cons l i 0 h) (count-cons halved k (getD l i 0) (drop (suc i) l))
 
--- i bytes are counted
-pub record Tallying (halved : Bool) (l : List ℕ) (i : ℕ) (a : List ℕ) : Type 0 where
+-- i bytes are counted, those whose key is less than the least passed over
+pub record Tallying (halved : Bool) (least : ℕ) (l : List ℕ) (i : ℕ) (a : List ℕ) : Type 0 where
   pub size : length a ≡ 256
-  pub slot : (k : ℕ) → k < 256 → getD a k 0 + count halved k (drop i l) ≡ count halved k l
+  pub slot : (k : ℕ) → least ≤ k → k < 256 → getD a k 0 + count halved k (drop i l) ≡ count halved k l
 
-pub tally-none : (halved : Bool) (l : List ℕ) → Tallying halved l 0 (replicate 256 0)
-tally-none halved l =
+pub tally-none : (halved : Bool) (least : ℕ) (l : List ℕ) → Tallying halved least l 0 (replicate 256 0)
+tally-none halved least l =
     record {
       size = length-replicate {A = ℕ} 256 0;
-      slot = λ k h. let e : getD {A = ℕ} (replicate 256 0) k 0 ≡ 0 = getD-replicate {A = ℕ} 256 k 0 0 h in omega arith;
+      slot = λ k g h. let e : getD {A = ℕ} (replicate 256 0) k 0 ≡ 0 = getD-replicate {A = ℕ} 256 k 0 0 h in omega arith;
     }
 
 slot-turn : (t : Bool) (a : List ℕ) (k j c d n : ℕ) → eqb k j ≡ t → k < length a → getD a j 0 + c ≡ n → c ≡ cond t 1 0 + d → getD (set a k (getD a k 0 + 1)) j 0 + d ≡ n
@@ -120,33 +117,33 @@ slot-turn false a k j c d n e h p q =
     let v : getD (set a k (getD a k 0 + 1)) j 0 ≡ getD a j 0 = getD-set-other a k j (getD a k 0 + 1) 0 (λ s. eqb-false k j e (sym s)) in
     omega arith
 
-pub tally-turn : (halved : Bool) (l : List ℕ) (i : ℕ) (a : List ℕ) (k : ℕ) → i < length l → k ≡ keyOf halved (getD l i 0) → k < 256 → Tallying halved l i a → Tallying halved l (i + 1) (set a k (getD a k 0 + 1))
-tally-turn halved l i a k h e p t =
+pub tally-turn : (halved : Bool) (least : ℕ) (l : List ℕ) (i : ℕ) (a : List ℕ) (k : ℕ) → i < length l → k ≡ keyOf halved (getD l i 0) → k < 256 → Tallying halved least l i a → Tallying halved least l (i + 1) (set a k (getD a k 0 + 1))
+tally-turn halved least l i a k h e p t =
     record {
       size = length-set a k (getD a k 0 + 1) ∙ t .size;
-      slot = λ j q.
+      slot = λ j g q.
           slot-turn (eqb (keyOf halved (getD l i 0)) j) a k j (count halved j (drop i l)) (count halved j (drop (i + 1) l)) (count halved j l)
-          (ap (λ (x : ℕ). eqb x j) e) (omega (arith, t .size)) (t .slot j q) (count-turn halved j l i h);
+          (ap (λ (x : ℕ). eqb x j) e) (omega (arith, t .size)) (t .slot j g q) (count-turn halved j l i h);
     }
 
-pub tally-room : (halved : Bool) (l : List ℕ) (i : ℕ) (a : List ℕ) (k : ℕ) → k < 256 → Tallying halved l i a → getD a k 0 ≤ length l
-tally-room halved l i a k p t = omega (arith, t .slot k p, count-le halved k l)
+pub tally-pass : (halved : Bool) (least : ℕ) (l : List ℕ) (i : ℕ) (a : List ℕ) (k : ℕ) → i < length l → k ≡ keyOf halved (getD l i 0) → k < least → Tallying halved least l i a → Tallying halved least l (i + 1) a
+tally-pass halved least l i a k h e p t =
+    record {
+      size = t .size;
+      slot = λ j g q.
+          let z : eqb (keyOf halved (getD l i 0)) j ≡ false = ap (λ (x : ℕ). eqb x j) (sym e) ∙ ne-eqb k j (λ s. omega arith) in
+          let d : count halved j (drop i l) ≡ 0 + count halved j (drop (i + 1) l) = count-turn halved j l i h ∙ ap (λ (b : Bool). cond b 1 0 + count halved j (drop (i + 1) l)) z in
+          omega (arith, t .slot j g q);
+    }
 
-pub tally-done : (halved : Bool) (l : List ℕ) (i : ℕ) (a : List ℕ) → length l ≤ i → Tallying halved l i a → Tallied halved l a
+pub tally-room : (halved : Bool) (least : ℕ) (l : List ℕ) (i : ℕ) (a : List ℕ) (k : ℕ) → least ≤ k → k < 256 → Tallying halved least l i a → getD a k 0 ≤ length l
+tally-room halved least l i a k g p t = omega (arith, t .slot k g p, count-le halved k l)
+
+pub tally-done : (halved : Bool) (least : ℕ) (l : List ℕ) (i : ℕ) (a : List ℕ) → length l ≤ i → Tallying halved least l i a → Tallied halved least l a
 unfolding count keep
-tally-done halved l i a h t =
+tally-done halved least l i a h t =
     let e : drop i l ≡ [] = drop-of-length-le l h in
-    record { slot = λ k p. let s : getD a k 0 + count halved k [] ≡ count halved k l = rw e at (t .slot k p) in omega arith }
-
--- the byte that was read, tested
-pub byte-test : (w b end : ℕ) (t : Bool) → w ≡ b → ltb w end ≡ t → ltb b end ≡ t
-byte-test w b end t e h = rw e at h
-
-pub key-half : (halved : Bool) (b r : ℕ) → halved ≡ true → r ≡ b / 2 → r ≡ keyOf halved b
-key-half halved b r h e = rw h e
-
-pub key-whole : (halved : Bool) (b r : ℕ) → halved ≡ false → r ≡ b → r ≡ keyOf halved b
-key-whole halved b r h e = rw h e
+    record { slot = λ k g p. let s : getD a k 0 + count halved k [] ≡ count halved k l = rw e at (t .slot k g p) in omega arith }
 
 pub counts-same : (t : List ℕ) (frames room m u : ℕ) → m ≡ num 2 t 0 → u ≡ getD t 2 0 → (leb m room && leb u frames) ≡ (leb (num 2 t 0) room && leb (getD t 2 0) frames)
 counts-same t frames room m u a b = rw (a, b)
@@ -166,20 +163,20 @@ unfolding zeros
 zeros-part l a e k r p h = below-part (λ (b : ℕ). eqb b 0) l a e k 1 r ltb-eqb p h
 
 -- slots by frame
-slot-serving : (es a : List ℕ) (f : ℕ) → f < 64 → Tallied true es a → getD a (f + 1) 0 ≡ serving f es
+slot-serving : (es a : List ℕ) (f : ℕ) → f < 64 → Tallied true 1 es a → getD a (f + 1) 0 ≡ serving f es
 unfolding serving count
-slot-serving es a f h t = t .slot (f + 1) (omega arith)
+slot-serving es a f h t = t .slot (f + 1) (omega arith) (omega arith)
 
-slot-times : (o a : List ℕ) (f : ℕ) → f < 64 → Tallied false o a → getD a f 0 ≡ times f o
+slot-times : (o a : List ℕ) (f : ℕ) → f < 64 → Tallied false 0 o a → getD a f 0 ≡ times f o
 unfolding times count
-slot-times o a f h t = t .slot f (omega arith)
+slot-times o a f h t = t .slot f (omega arith) (omega arith)
 
-once-same : (es a : List ℕ) (frames : ℕ) → frames ≤ 64 → Tallied true es a → upTo (λ (f : ℕ). leb (getD a (f + 1) 0) 1) frames 0 ≡ upTo (λ (f : ℕ). leb (serving f es) 1) frames 0
+once-same : (es a : List ℕ) (frames : ℕ) → frames ≤ 64 → Tallied true 1 es a → upTo (λ (f : ℕ). leb (getD a (f + 1) 0) 1) frames 0 ≡ upTo (λ (f : ℕ). leb (serving f es) 1) frames 0
 once-same es a frames h t =
     upTo-same (λ (f : ℕ). leb (getD a (f + 1) 0) 1) (λ (f : ℕ). leb (serving f es) 1) frames 0
     (λ f p. ap (λ (x : ℕ). leb x 1) (slot-serving es a f (omega arith) t))
 
-named-same : (es o a n : List ℕ) (frames : ℕ) → frames ≤ 64 → Tallied true es a → Tallied false o n → upTo (λ (f : ℕ). eqb (getD n f 0) (getD a (f + 1) 0)) frames 0 ≡ upTo (λ (f : ℕ). eqb (times f o) (serving f es)) frames 0
+named-same : (es o a n : List ℕ) (frames : ℕ) → frames ≤ 64 → Tallied true 1 es a → Tallied false 0 o n → upTo (λ (f : ℕ). eqb (getD n f 0) (getD a (f + 1) 0)) frames 0 ≡ upTo (λ (f : ℕ). eqb (times f o) (serving f es)) frames 0
 named-same es o a n frames h t u =
     upTo-same (λ (f : ℕ). eqb (getD n f 0) (getD a (f + 1) 0)) (λ (f : ℕ). eqb (times f o) (serving f es)) frames 0
     (λ f p. both f (slot-times o n f (omega arith) u) (slot-serving es a f (omega arith) t))
@@ -187,7 +184,7 @@ named-same es o a n frames h t u =
     both : (f : ℕ) → getD n f 0 ≡ times f o → getD a (f + 1) 0 ≡ serving f es → eqb (getD n f 0) (getD a (f + 1) 0) ≡ eqb (times f o) (serving f es)
     both f x y = ap (λ (z : ℕ). eqb z (getD a (f + 1) 0)) x ∙ ap (λ (z : ℕ). eqb (times f o) z) y
 
-pub agree-same : (es o a n : List ℕ) (frames : ℕ) (x y : Bool) → frames ≤ 64 → Tallied true es a → Tallied false o n → x ≡ upTo (λ (f : ℕ). leb (getD a (f + 1) 0) 1) frames 0 → y ≡ upTo (λ (f : ℕ). eqb (getD n f 0) (getD a (f + 1) 0)) frames 0 → (x && y) ≡ (upTo (λ (f : ℕ). leb (serving f es) 1) frames 0 && upTo (λ (f : ℕ). eqb (times f o) (serving f es)) frames 0)
+pub agree-same : (es o a n : List ℕ) (frames : ℕ) (x y : Bool) → frames ≤ 64 → Tallied true 1 es a → Tallied false 0 o n → x ≡ upTo (λ (f : ℕ). leb (getD a (f + 1) 0) 1) frames 0 → y ≡ upTo (λ (f : ℕ). eqb (getD n f 0) (getD a (f + 1) 0)) frames 0 → (x && y) ≡ (upTo (λ (f : ℕ). leb (serving f es) 1) frames 0 && upTo (λ (f : ℕ). eqb (times f o) (serving f es)) frames 0)
 agree-same es o a n frames x y h t u p q =
     ap (λ (z : Bool). z && y) (p ∙ once-same es a frames h t) ∙ ap (λ (z : Bool). upTo (λ (f : ℕ). leb (serving f es) 1) frames 0 && z) (q ∙ named-same es o a n frames h t u)
 

@@ -1,5 +1,5 @@
 -- How many bytes of a list have a key, for each key: of a page entry its half, of a place of the order the byte itself.
-use Prim.Native.Nat.{ℕ, _/_, _<_}
+use Prim.Native.Nat.{ℕ, _/_, _≤_, _<_}
 use mathlib.Core.Bool.{Bool, true, false}
 use mathlib.Core.Path.{_≡_}
 use mathlib.Core.List.{List}
@@ -14,6 +14,6 @@ keyOf false b = b
 unfoldable pub count : Bool → ℕ → List ℕ → ℕ
 count halved k l = length (keep (λ (b : ℕ). eqb (keyOf halved b) k) l)
 
--- a has the count of each key
-pub record Tallied (halved : Bool) (l a : List ℕ) : Type 0 where
-  pub slot : (k : ℕ) → k < 256 → getD a k 0 ≡ count halved k l
+-- a has the count of each key from the least on
+pub record Tallied (halved : Bool) (least : ℕ) (l a : List ℕ) : Type 0 where
+  pub slot : (k : ℕ) → least ≤ k → k < 256 → getD a k 0 ≡ count halved k l

@@ -1,6 +1,6 @@
 // The check of the `tables` area: counts, live set, page entries, use order. One pass over each part.
 ghost use mathlib.Core.Path.{_≡_};
-ghost use mathlib.Core.Bool.{_&&_};
+ghost use mathlib.Core.Bool.{true, false, _&&_};
 ghost use Prim.Native.Nat.{ℕ, _+_, _-_, _/_, _≤_, _<_};
 ghost use lib.ListN.{length, getD};
 ghost use lib.Dec.{eqb, leb, ltb};
@@ -8,42 +8,48 @@ ghost use Rattle.word.specs.Word.{num};
 ghost use Rattle.record.specs.Part.{part};
 ghost use Rattle.rules.specs.Sound.{every, upTo, zeros, serving, times};
 ghost use Rattle.pagetable.specs.Test.{tablesTest};
-ghost use Rattle.pagetable.specs.Tally.{keyOf, Tallied};
+ghost use Rattle.pagetable.specs.Tally.{Tallied};
 
-// Every byte is below the end.
-fn all_below(s: &[u8], end: usize) -> bool
+// Every byte is below the end. No exit from the loop, so that many bytes are compared at a time.
+fn all_below(s: &[u8], end: u8) -> bool
     ensures { λ r. ⌜ r ≡ every (λ (b : ℕ). ltb b end) (now (s .entry)) ⌝ }
 {
+    let mut ok = true;
     let mut i = 0;
     while i < s.len() {
-        if end <= word::wide(s[i]) as usize {
-            return false;
-        }
+        ok = ok & (s[i] < end);
         i += 1;
     }
-    true
+    ok
 }
 
-// What a byte is counted under: an entry's half is its frame number and one, a place of the order is the frame number.
-fn key(b: u8, halved: bool) -> usize
-    ensures { λ r. ⌜ (r ≡ keyOf halved b) × (r < 256) ⌝ }
-{
-    if halved {
-        return word::wide(b / 2) as usize;
-    }
-    word::wide(b) as usize
-}
-
-// How many bytes have each key.
-fn tally(s: &[u8], halved: bool) -> [u16; 256]
+// How often the order names each frame.
+fn tally(s: &[u8]) -> [u16; 256]
     requires { ⌜ length (now s) ≤ 1024 ⌝ }
-    ensures { λ r. ⌜ Tallied halved (now (s .entry)) r ⌝ }
+    ensures { λ r. ⌜ Tallied false 0 (now (s .entry)) r ⌝ }
 {
     let mut a = [0u16; 256];
     let mut i = 0;
     while i < s.len() {
-        let k = key(s[i], halved);
+        let k = word::wide(s[i]) as usize;
         a[k] += 1;
+        i += 1;
+    }
+    a
+}
+
+// How many entries have each half, which is a frame number and one. The half 0 is no frame's and mostly the commonest: counted, its slot would be stored and loaded at each.
+fn tally_served(s: &[u8]) -> [u16; 256]
+    requires { ⌜ length (now s) ≤ 1024 ⌝ }
+    ensures { λ r. ⌜ Tallied true 1 (now (s .entry)) r ⌝ }
+{
+    let mut a = [0u16; 256];
+    let mut i = 0;
+    while i < s.len() {
+        let k = word::wide(s[i] / 2) as usize;
+        if k != 0 {
+            a[k] += 1;
+        }
         i += 1;
     }
     a
@@ -84,8 +90,8 @@ fn frames_agree(entries: &[u8], order: &[u8], frames: usize) -> bool
     requires { ⌜ (length (now entries) ≤ 1024) × (length (now order) ≤ 64) × (frames ≤ 64) ⌝ }
     ensures { λ r. ⌜ r ≡ (upTo (λ (f : ℕ). leb (serving f (now (entries .entry))) 1) frames 0 && upTo (λ (f : ℕ). eqb (times f (now (order .entry))) (serving f (now (entries .entry)))) frames 0) ⌝ }
 {
-    let served = tally(entries, true);
-    let named = tally(order, false);
+    let served = tally_served(entries);
+    let named = tally(order);
     each_once(&served, frames) & each_named(&named, &served, frames)
 }
 
@@ -112,16 +118,16 @@ fn entries_within(tables: &[u8], pages: usize, frames: usize) -> bool
     ensures { λ r. ⌜ r ≡ every (λ (e : ℕ). leb (e / 2) frames) (part (35 + frames) pages (now (tables .entry))) ⌝ }
 {
     let a = 35 + frames;
-    all_below(&tables[a..], 2 * frames + 2)
+    all_below(&tables[a..], (2 * frames + 2) as u8)
 }
 
 // Neither does a place of the order.
 fn order_within(tables: &[u8], frames: usize, u: usize) -> bool
-    requires { ⌜ (35 + u ≤ length (now tables)) × (u ≤ 64) ⌝ }
+    requires { ⌜ (35 + u ≤ length (now tables)) × (u ≤ frames) × (frames ≤ 64) ⌝ }
     ensures { λ r. ⌜ r ≡ every (λ (f : ℕ). ltb f frames) (part 35 u (now (tables .entry))) ⌝ }
 {
     let e = 35 + u;
-    all_below(&tables[35..e], frames)
+    all_below(&tables[35..e], frames as u8)
 }
 
 // The places that are not in use are zero.

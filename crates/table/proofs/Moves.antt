@@ -84,6 +84,11 @@ slide-start l from to = sym (take-append-drop to l)
 pub slide-end : (l s : List ℕ) (from to i n : ℕ) → i ≤ n → n ≤ i → s ≡ withPart to i l (part from i l) → s ≡ withPart to n l (part from n l)
 slide-end l s from to i n p q e = let h : i ≡ n = omega arith in e ∙ ap (λ (k : ℕ). withPart to k l (part from k l)) h
 
+pub slide-stays : (l : List ℕ) (from to n : ℕ) → to ≡ from → l ≡ withPart to n l (part from n l)
+slide-stays l from to n e =
+    sym (take-append-drop to l) ∙ ap (λ (x : List ℕ). take to l ++ x) (sym (take-append-drop n (drop to l)))
+    ∙ ap (λ (k : ℕ). withPart to n l (part k n l)) e
+
 -- `clear`: the part from a place to the end
 pub clear-end : (a : ℕ) (l ys : List ℕ) → a ≤ length l → ys ≡ replicate (length (take (length l - a) (drop a l))) 0
     → withPart a (length l - a) l ys ≡ take a l ++ replicate (length l - a) 0

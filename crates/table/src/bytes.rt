@@ -36,11 +36,14 @@ pub fn copy(d: &mut [u8], s: &[u8])
     }
 }
 
-// The n bytes at a place moved down to another; the two may overlap.
+// The n bytes at a place moved down to another; the two may overlap. Where they are the same, nothing is written.
 pub fn slide(s: &mut [u8], from: usize, to: usize, n: usize)
     requires { ⌜ (to ≤ from) × (from + n ≤ length (now s)) ⌝ }
     ensures { λ r. ⌜ now (s .exit) ≡ withPart to n (now (s .entry)) (part from n (now (s .entry))) ⌝ }
 {
+    if to == from {
+        return;
+    }
     let mut i = 0;
     while i < n {
         s[to + i] = s[from + i];

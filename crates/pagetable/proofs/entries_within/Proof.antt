@@ -28,6 +28,9 @@ mul-all-below c = search needs
 add-all-below : tie.Need-add-all-below
 add-all-below c = search needs
 
+cast-all-below : tie.Need-cast-all-below
+cast-all-below c = search needs
+
 all-below-requires : tie.Need-all-below-requires
 all-below-requires c κs = search needs
 
@@ -48,5 +51,6 @@ entries-within-spec =
     part-all-below-end
     mul-all-below
     add-all-below
+    cast-all-below
     all-below-requires
     returns)

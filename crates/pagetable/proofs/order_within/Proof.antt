@@ -21,6 +21,9 @@ part-all-below-start c = search needs
 part-all-below-end : tie.Need-part-all-below-end
 part-all-below-end c = search needs
 
+cast-all-below : tie.Need-cast-all-below
+cast-all-below c = search needs
+
 all-below-requires : tie.Need-all-below-requires
 all-below-requires c κs = search needs
 
@@ -38,5 +41,6 @@ order-within-spec =
     sub-all-below
     part-all-below-start
     part-all-below-end
+    cast-all-below
     all-below-requires
     returns)

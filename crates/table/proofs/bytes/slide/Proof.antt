@@ -1,9 +1,9 @@
--- The first i bytes are moved; each is read before it is written over.
+-- Bytes that stay are as they were. Else the first i bytes are moved; each is read before it is written over.
 use Prim.Native.Nat.{_-_, _≤_}
 use mathlib.Core.Path.{_≡_, refl}
 use lib.ListN.{length}
 use Rattle.record.specs.Part.{part, withPart}
-use Rattle.table.proofs.Moves.{slide-start, slide-turn, slide-end}
+use Rattle.table.proofs.Moves.{slide-stays, slide-start, slide-turn, slide-end}
 use denote.Ref.{now}
 use borrow.Author.Needs.{needs}
 use Rattle.table.proofs.bytes.slide.Statement.{statement}
@@ -15,8 +15,11 @@ Inv-loop s₀ from to n i₀ s i = (i ≤ n) × (s ≡ withPart to i s₀ (part 
 abbrev μ-loop : tie.MeasureT-loop
 μ-loop s₀ from to n i₀ s i = n - i
 
+returns : tie.Need-returns Inv-loop μ-loop
+returns c = slide-stays (now (c .before .args .s)) (c .before .args .from) (c .before .args .to) (c .before .args .n) (c .if1 .taken)
+
 loop-holds : tie.Need-loop-holds Inv-loop μ-loop
-loop-holds c = (search needs, slide-start _ (c .args .from) (c .args .to), refl)
+loop-holds c = (search needs, slide-start _ (c .before .args .from) (c .before .args .to), refl)
 
 add-s : tie.Need-add-s Inv-loop μ-loop
 add-s c = search needs
@@ -37,13 +40,13 @@ loop-less : tie.Need-loop-less Inv-loop μ-loop
 loop-less c = search needs
 
 loop-again : tie.Need-loop-again Inv-loop μ-loop
-loop-again c = (search needs, slide-turn (now (c .before .before .before .args .s)) _ _ _ _ _ (c .before .before .before .pre .0) (c .before .before .before .pre .1) (c .before .loop-test .taken) (c .before .before .loop .inv .1), search needs)
+loop-again c = (search needs, slide-turn (now (c .before .before .before .before .args .s)) _ _ _ _ _ (c .before .before .before .before .pre .0) (c .before .before .before .before .pre .1) (c .before .loop-test .taken) (c .before .before .loop .inv .1), search needs)
 
 same-length : tie.Need-same-length Inv-loop μ-loop
 same-length c = search needs
 
-returns : tie.Need-returns Inv-loop μ-loop
-returns c = slide-end (now (c .before .before .args .s)) _ (c .before .before .args .from) (c .before .before .args .to) _ _ (c .before .loop .inv .0) (c .loop-test .left) (c .before .loop .inv .1)
+returns-2 : tie.Need-returns-2 Inv-loop μ-loop
+returns-2 c = slide-end (now (c .before .before .before .args .s)) _ (c .before .before .before .args .from) (c .before .before .before .args .to) _ _ (c .before .loop .inv .0) (c .loop-test .left) (c .before .loop .inv .1)
 
 pub slide-spec : {M : Type 1} → statement M
 slide-spec =
@@ -51,6 +54,7 @@ slide-spec =
     (tie.spec
     Inv-loop
     μ-loop
+    returns
     loop-holds
     add-s
     slice-read-s
@@ -60,4 +64,4 @@ slide-spec =
     loop-less
     loop-again
     same-length
-    returns)
+    returns-2)
