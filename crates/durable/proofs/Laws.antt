@@ -4,7 +4,7 @@ use native.Mathlib.Omega.{arith}
 use native.Mathlib.Numerals.{add-one}
 use native.Mathlib.Nat.{mul-le-mul}
 use mathlib.Core.Path.{_≡_, refl, sym, ap, _∙_}
-use mathlib.Core.Bool.{Bool, true, false, not, _&&_, _||_}
+use mathlib.Core.Bool.{Bool, true, false, not, _&&_, _||_, and-true, and-assoc}
 use mathlib.Core.List.{List}
 use lib.ListN.{length, getD, take, drop, length-drop, drop-of-length-le}
 use lib.Seq.{drop-cons, take-all}
@@ -100,18 +100,14 @@ module _ (b : List ℕ → Bool) (w : ℕ) (t : List ℕ) (n : ℕ) where
       let e : n - i ≡ 0 = omega arith in
       rw e at inv
 
--- the same over bytes that are to be zero
-pub zeros-turn : (l : List ℕ) (i : ℕ) (x : Bool) → i < length l → getD l i 0 ≡ 0 → zeros (drop i l) ≡ x → zeros (drop (i + 1) l) ≡ x
+-- a loop that joins the tests of bytes that are to be zero
+pub zeros-turn : (l : List ℕ) (i : ℕ) (ok x : Bool) → i < length l → (ok && zeros (drop i l)) ≡ x → (ok && eqb (getD l i 0) 0 && zeros (drop (i + 1) l)) ≡ x
 unfolding zeros every
-zeros-turn l i x p h inv = rw add-one (rw (drop-cons l i 0 p, h) at inv)
+zeros-turn l i ok x p inv = rw add-one (and-assoc ok (eqb (getD l i 0) 0) (zeros (drop (suc i) l)) ∙ (rw (drop-cons l i 0 p) at inv))
 
-pub zeros-stop : (l : List ℕ) (i : ℕ) (x : Bool) → i < length l → (getD l i 0 ≡ 0 → ⊥) → zeros (drop i l) ≡ x → false ≡ x
+pub zeros-done : (l : List ℕ) (i : ℕ) (ok x : Bool) → length l ≤ i → (ok && zeros (drop i l)) ≡ x → ok ≡ x
 unfolding zeros every
-zeros-stop l i x p h inv = rw (drop-cons l i 0 p, ne-eqb (getD l i 0) 0 h) at inv
-
-pub zeros-done : (l : List ℕ) (i : ℕ) (x : Bool) → length l ≤ i → zeros (drop i l) ≡ x → true ≡ x
-unfolding zeros every
-zeros-done l i x p inv = rw (drop-of-length-le l {i = i} p) at inv
+zeros-done l i ok x p inv = sym (and-true ok) ∙ (rw (drop-of-length-le l {i = i} p) at inv)
 
 -- what is lent of a list from a place on
 pub rest-lent : (l : List ℕ) (a : ℕ) → take (length l - a) (drop a l) ≡ drop a l

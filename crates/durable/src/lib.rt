@@ -15,18 +15,17 @@ ghost use Rattle.durable.specs.Marks.{isRecord, soundCounts, stampWithin
 use number::LogNo;
 use number::PageNo;
 
-// Every byte is zero.
+// Every byte is zero. The loop looks at all of them: without a way out it is compiled to steps of many bytes.
 pub fn all_zero(s: &[u8]) -> bool
     ensures { λ r. ⌜ r ≡ zeros (now (s .entry)) ⌝ }
 {
+    let mut ok = true;
     let mut i = 0;
     while i < s.len() {
-        if s[i] != 0 {
-            return false;
-        }
+        ok = ok & (s[i] == 0);
         i += 1;
     }
-    true
+    ok
 }
 
 // A length is 1, 2, 4 or 8.
