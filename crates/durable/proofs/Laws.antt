@@ -113,33 +113,27 @@ zeros-done l i ok x p inv = sym (and-true ok) ∙ (rw (drop-of-length-le l {i = 
 pub rest-lent : (l : List ℕ) (a : ℕ) → take (length l - a) (drop a l) ≡ drop a l
 rest-lent l a = take-all (length l - a) (drop a l) (rw (length-drop a l) (omega arith))
 
--- a length that is none of 1, 2 and 4 is 8
-pub length-eight : (w : ℕ) → isLength w ≡ true → (w ≡ 1 → ⊥) → (w ≡ 2 → ⊥) → (w ≡ 4 → ⊥) → w ≡ 8
+-- `below_power`: each length has its test, which the others pass, and at 8 bytes a value is below the power by its type
+power-at : (w v : ℕ) (a b c d : Bool) → eqb w 1 ≡ a → eqb w 2 ≡ b → eqb w 4 ≡ c → eqb w 8 ≡ d → v < 2 ^ 64 → (a || b || c || d) ≡ true → ((not (eqb w 1) || ltb v 256) && (not (eqb w 2) || ltb v 65536) && (not (eqb w 4) || ltb v 4294967296)) ≡ ltb v (256 ^ w)
+power-at w v true b c d ea eb ec ed h k = rw (eqb-true w 1 ea) (and-true (ltb v 256 && true) ∙ and-true (ltb v 256))
+power-at w v false true c d ea eb ec ed h k = rw (eqb-true w 2 eb) (and-true (ltb v 65536))
+power-at w v false false true d ea eb ec ed h k = rw (eqb-true w 4 ec)
+power-at w v false false false true ea eb ec ed h k = rw (eqb-true w 8 ed) (sym (lt-ltb v (256 ^ 8) h))
+power-at w v false false false false ea eb ec ed h k = let z : _≡_ {A = ℕ} 0 1 = cc in absurd (omega arith)
+
+pub power-tests : (w v : ℕ) → v < 2 ^ 64 → isLength w ≡ true → ((not (eqb w 1) || ltb v 256) && (not (eqb w 2) || ltb v 65536) && (not (eqb w 4) || ltb v 4294967296)) ≡ ltb v (256 ^ w)
 unfolding isLength
-length-eight w h a b c = eqb-true w 8 (rw (ne-eqb w 1 a, ne-eqb w 2 b, ne-eqb w 4 c) at h)
+power-tests w v h k = power-at w v _ _ _ _ refl refl refl refl h k
 
-pub fits-at : (w k v : ℕ) → w ≡ k → ltb v (256 ^ k) ≡ ltb v (256 ^ w)
-fits-at w k v e = rw e
+-- `is_record`: what was found of the value counts where the length is one
+last-guarded : (p l o k v r : Bool) → (l ≡ true → r ≡ v) → (p && l && o && k && r) ≡ (p && l && o && k && v)
+last-guarded true true o k v r e = rw (e refl)
+last-guarded true false o k v r e = refl
+last-guarded false l o k v r e = refl
 
-pub fits-eight : (w v : ℕ) → w ≡ 8 → v < 2 ^ 64 → true ≡ ltb v (256 ^ w)
-fits-eight w v e h = rw e (sym (lt-ltb v (256 ^ 8) h))
-
--- `is_record`: a bad length, and a good one
-bad-second : (p l o k v : Bool) → l ≡ false → false ≡ (p && l && o && k && v)
-bad-second true l o k v h = rw h
-bad-second false l o k v h = refl
-
-good-second : (p l o k v r : Bool) → l ≡ true → r ≡ v → (p && o && k && r) ≡ (p && l && o && k && v)
-good-second true l o k v r h e = rw (h, e)
-good-second false l o k v r h e = refl
-
-pub record-length : (size pages page offset w kind v : ℕ) → isLength w ≡ false → false ≡ isRecord size pages page offset w kind v
+pub record-tests : (size pages page offset w kind v : ℕ) (l r : Bool) → l ≡ isLength w → (isLength w ≡ true → r ≡ ltb v (256 ^ w)) → (ltb page pages && l && leb (offset + w) size && leb kind 1 && r) ≡ isRecord size pages page offset w kind v
 unfolding isRecord
-record-length size pages page offset w kind v h = bad-second (ltb page pages) (isLength w) (leb (offset + w) size) (leb kind 1) (ltb v (256 ^ w)) h
-
-pub record-rest : (size pages page offset w kind v : ℕ) (r : Bool) → isLength w ≡ true → r ≡ ltb v (256 ^ w) → (ltb page pages && leb (offset + w) size && leb kind 1 && r) ≡ isRecord size pages page offset w kind v
-unfolding isRecord
-record-rest size pages page offset w kind v r h e = good-second (ltb page pages) (isLength w) (leb (offset + w) size) (leb kind 1) (ltb v (256 ^ w)) r h e
+record-tests size pages page offset w kind v l r e f = rw e (last-guarded (ltb page pages) (isLength w) (leb (offset + w) size) (leb kind 1) (ltb v (256 ^ w)) r f)
 
 -- `well_formed`: the fields are those of a row
 pub record-fields : (size pages page offset w kind v : ℕ) (r : List ℕ) (x : Bool) → page ≡ pageOf r → offset ≡ offsetOf r → w ≡ lengthOf r → kind ≡ kindOf r → v ≡ valueOf r → x ≡ isRecord size pages page offset w kind v → x ≡ wellFormed size pages r

@@ -35,21 +35,20 @@ pub fn is_length(w: usize) -> bool
     (w == 1) | (w == 2) | (w == 4) | (w == 8)
 }
 
-// A value is below 256 to the power of its length; at 8 bytes every value is.
+// A value is below 256 to the power w, where w is a length; at 8 bytes every value is.
+// Lengths differ from row to row, so that a branch on them would be guessed wrong.
+fn below_power(w: usize, v: u64) -> bool
+    ensures { λ r. ⌜ (isLength w ≡ true → r ≡ ltb v (256 ^ w)) ⌝ }
+{
+    ((w != 1) | (v < 256)) & ((w != 2) | (v < 65536)) & ((w != 4) | (v < 4294967296))
+}
+
+// A value is below 256 to the power of its length.
 pub fn value_fits(w: usize, v: u64) -> bool
     requires { ⌜ isLength w ≡ true ⌝ }
     ensures { λ r. ⌜ r ≡ ltb v (256 ^ w) ⌝ }
 {
-    if w == 1 {
-        return v < 256;
-    }
-    if w == 2 {
-        return v < 65536;
-    }
-    if w == 4 {
-        return v < 4294967296;
-    }
-    true
+    below_power(w, v)
 }
 
 // The fields of a record are in their ranges.
@@ -65,10 +64,7 @@ fn is_record(
     requires { ⌜ (offset < 65536) × (w < 256) ⌝ }
     ensures { λ r. ⌜ r ≡ isRecord size pages (page .0) offset w kind v ⌝ }
 {
-    if !is_length(w) {
-        return false;
-    }
-    (page.0 < pages) & (offset + w <= size) & (kind <= 1) & value_fits(w, v)
+    (page.0 < pages) & is_length(w) & (offset + w <= size) & (kind <= 1) & below_power(w, v)
 }
 
 // Row i of a table whose rows have w bytes is a record.
