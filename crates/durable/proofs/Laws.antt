@@ -55,29 +55,23 @@ refused {a} {b} e h = sym e ∙ not-true a h
 pub passed : {a b : Bool} → a ≡ b → not a ≡ false → b ≡ true
 passed {a} {b} e h = sym e ∙ not-false a h
 
--- a loop over n numbers that stops at the first that fails: none looked at yet, a turn, a stop and the end
+-- a loop over n numbers that joins what each test found: none looked at yet, a turn and the end
 pub upTo-none : (b : ℕ → Bool) (n : ℕ) → upTo b (n - 0) 0 ≡ upTo b n 0
 upTo-none b n = let e : n - 0 ≡ n = omega arith in rw e
 
-pub upTo-turn : (b : ℕ → Bool) (n i : ℕ) (x : Bool) → i < n → b i ≡ true → upTo b (n - i) i ≡ x → upTo b (n - (i + 1)) (i + 1) ≡ x
+pub upTo-turn : (b : ℕ → Bool) (n i : ℕ) (ok r x : Bool) → i < n → r ≡ b i → (ok && upTo b (n - i) i) ≡ x → (ok && r && upTo b (n - (i + 1)) (i + 1)) ≡ x
 unfolding upTo
-upTo-turn b n i x p h inv =
+upTo-turn b n i ok r x p h inv =
     let e : n - i ≡ suc (n - (i + 1)) = omega arith in
-    rw (e, h) at inv
+    rw h (and-assoc ok (b i) (upTo b (n - (i + 1)) (i + 1)) ∙ (rw e at inv))
 
-pub upTo-stop : (b : ℕ → Bool) (n i : ℕ) (x : Bool) → i < n → b i ≡ false → upTo b (n - i) i ≡ x → false ≡ x
+pub upTo-done : (b : ℕ → Bool) (n i : ℕ) (ok x : Bool) → n ≤ i → (ok && upTo b (n - i) i) ≡ x → ok ≡ x
 unfolding upTo
-upTo-stop b n i x p h inv =
-    let e : n - i ≡ suc (n - (i + 1)) = omega arith in
-    rw (e, h) at inv
-
-pub upTo-done : (b : ℕ → Bool) (n i : ℕ) (x : Bool) → n ≤ i → upTo b (n - i) i ≡ x → true ≡ x
-unfolding upTo
-upTo-done b n i x p inv =
+upTo-done b n i ok x p inv =
     let e : n - i ≡ 0 = omega arith in
-    rw e at inv
+    sym (and-true ok) ∙ (rw e at inv)
 
--- the same over n rows of a table
+-- a loop over n rows of a table that stops at the first that fails
 module _ (b : List ℕ → Bool) (w : ℕ) (t : List ℕ) (n : ℕ) where
   pub rows-none : every b (rows w (n - 0) t 0) ≡ every b (rows w n t 0)
   rows-none = let e : n - 0 ≡ n = omega arith in rw e
@@ -150,12 +144,9 @@ counts-last last closed n span h k = rw (le-leb n span h, lt-leb n last k)
 pub counts-first : (last closed n span : ℕ) → n ≤ span → n ≤ last → leb (last - n + 1) (closed + 1) ≡ soundCounts last closed n span
 counts-first last closed n span h k = rw (le-leb n span h, le-leb n last k)
 
--- `page_stamps`: a stamp above L, and one within it
-pub stamp-past : (marks : List ℕ) (last p r : ℕ) → r ≡ num 4 marks (stampAt p) → last < r → stampWithin marks last p ≡ false
-stamp-past marks last p r e h = rw (← e) (lt-leb r last h)
-
-pub stamp-within : (marks : List ℕ) (last p r : ℕ) → r ≡ num 4 marks (stampAt p) → r ≤ last → stampWithin marks last p ≡ true
-stamp-within marks last p r e h = rw (← e) (le-leb r last h)
+-- `page_stamps`: the stamp tested is the page's
+pub stamp-read : (marks : List ℕ) (last p r : ℕ) → r ≡ num 4 marks (stampAt p) → leb r last ≡ stampWithin marks last p
+stamp-read marks last p r e = ap (λ (x : ℕ). leb x last) e
 
 -- `dirty_numbers`: the number tested is the page's
 pub dirty-read : (marks : List ℕ) (pages first closed p d : ℕ) (r : Bool) → d ≡ num 4 marks (dirtyAt pages p) → r ≡ soundDirty first closed d → r ≡ dirtyWithin marks pages first closed p

@@ -114,14 +114,13 @@ fn page_stamps(marks: &[u8], pages: usize, last: LogNo) -> bool
     requires { ⌜ 12 + 8 * pages ≤ length (now marks) ⌝ }
     ensures { λ r. ⌜ r ≡ upTo (stampWithin (now (marks .entry)) (last .0)) pages 0 ⌝ }
 {
+    let mut ok = true;
     let mut p = 0;
     while p < pages {
-        if last.0 < word::load(marks, 12 + 4 * p, 4) {
-            return false;
-        }
+        ok = ok & (word::load(marks, 12 + 4 * p, 4) <= last.0);
         p += 1;
     }
-    true
+    ok
 }
 
 // K and every stamp are at most L.
@@ -144,15 +143,14 @@ fn dirty_numbers(marks: &[u8], pages: usize, first: LogNo, closed: LogNo) -> boo
     requires { ⌜ 12 + 8 * pages ≤ length (now marks) ⌝ }
     ensures { λ r. ⌜ r ≡ soundDirties (now (marks .entry)) pages (first .0) (closed .0) ⌝ }
 {
+    let mut ok = true;
     let mut p = 0;
     while p < pages {
         let d = LogNo(word::load(marks, 12 + 4 * pages + 4 * p, 4));
-        if !is_dirty_number(d, first, closed) {
-            return false;
-        }
+        ok = ok & is_dirty_number(d, first, closed);
         p += 1;
     }
-    true
+    ok
 }
 
 // A page size is 512, 1,024, 2,048 or 4,096.
