@@ -1,15 +1,16 @@
 -- Laws of the turns of the checking loops, of tests joined in a row, of the ranges and the lengths, and what the durable part's soundness gives.
-use Prim.Native.Nat.{ℕ, zero, suc, _+_, _*_, _-_, _^_, _≤_, _<_}
+use Prim.Native.Nat.{ℕ, zero, suc, _+_, _*_, _-_, _/_, _%_, _^_, _≤_, _<_}
 use native.Mathlib.Omega.{arith}
 use native.Mathlib.Numerals.{add-one}
-use native.Mathlib.Nat.{mul-le-mul}
-use mathlib.Core.Path.{_≡_, refl, sym, ap, _∙_}
+use native.Mathlib.Nat.{mul-le-mul, div-eq-of-lt, div-lt-iff-lt-mul}
+use mathlib.Core.Path.{_≡_, refl, sym, ap, subst, _∙_}
 use mathlib.Core.Bool.{Bool, true, false, not, _&&_, _||_, and-true, and-assoc}
 use mathlib.Core.List.{List}
 use lib.ListN.{length, getD, take, drop, length-drop, drop-of-length-le}
 use lib.Seq.{drop-cons, take-all}
-use lib.Dec.{eqb, leb, ltb}
-use borrow.Author.Tests.{eqb-true, leb-true, eq-eqb, ne-eqb, le-leb, lt-leb, lt-ltb, not-true, not-false}
+use lib.Pow.{pow-pos, shr-shr}
+use lib.Dec.{eqb, leb, ltb, lit<}
+use borrow.Author.Tests.{eqb-true, leb-true, eq-eqb, ne-eqb, le-leb, lt-leb, ltb-true, ltb-false, not-true, not-false}
 use Rattle.record.specs.Rows.{rowAt, rows}
 use Rattle.record.specs.Record.{pageOf, offsetOf, lengthOf, kindOf, valueOf, isLength, wellFormed}
 use Rattle.word.specs.Word.{num}
@@ -107,17 +108,35 @@ zeros-done l i ok x p inv = sym (and-true ok) ∙ (rw (drop-of-length-le l {i = 
 pub rest-lent : (l : List ℕ) (a : ℕ) → take (length l - a) (drop a l) ≡ drop a l
 rest-lent l a = take-all (length l - a) (drop a l) (rw (length-drop a l) (omega arith))
 
--- `below_power`: each length has its test, which the others pass, and at 8 bytes a value is below the power by its type
-power-at : (w v : ℕ) (a b c d : Bool) → eqb w 1 ≡ a → eqb w 2 ≡ b → eqb w 4 ≡ c → eqb w 8 ≡ d → v < 2 ^ 64 → (a || b || c || d) ≡ true → ((not (eqb w 1) || ltb v 256) && (not (eqb w 2) || ltb v 65536) && (not (eqb w 4) || ltb v 4294967296)) ≡ ltb v (256 ^ w)
-power-at w v true b c d ea eb ec ed h k = rw (eqb-true w 1 ea) (and-true (ltb v 256 && true) ∙ and-true (ltb v 256))
-power-at w v false true c d ea eb ec ed h k = rw (eqb-true w 2 eb) (and-true (ltb v 65536))
-power-at w v false false true d ea eb ec ed h k = rw (eqb-true w 4 ec)
-power-at w v false false false true ea eb ec ed h k = rw (eqb-true w 8 ed) (sym (lt-ltb v (256 ^ 8) h))
-power-at w v false false false false ea eb ec ed h k = let z : _≡_ {A = ℕ} 0 1 = cc in absurd (omega arith)
+-- what holds of 1, 2, 4 and 8 holds of a length
+length-cases : (P : ℕ → Type 0) (w : ℕ) (a b c d : Bool) → eqb w 1 ≡ a → eqb w 2 ≡ b → eqb w 4 ≡ c → eqb w 8 ≡ d → (a || b || c || d) ≡ true → P 1 → P 2 → P 4 → P 8 → P w
+length-cases P w true b c d ea eb ec ed h one two four eight = subst P (sym (eqb-true w 1 ea)) one
+length-cases P w false true c d ea eb ec ed h one two four eight = subst P (sym (eqb-true w 2 eb)) two
+length-cases P w false false true d ea eb ec ed h one two four eight = subst P (sym (eqb-true w 4 ec)) four
+length-cases P w false false false true ea eb ec ed h one two four eight = subst P (sym (eqb-true w 8 ed)) eight
+length-cases P w false false false false ea eb ec ed h one two four eight = let z : _≡_ {A = ℕ} 0 1 = cc in absurd (omega arith)
 
-pub power-tests : (w v : ℕ) → v < 2 ^ 64 → isLength w ≡ true → ((not (eqb w 1) || ltb v 256) && (not (eqb w 2) || ltb v 65536) && (not (eqb w 4) || ltb v 4294967296)) ≡ ltb v (256 ^ w)
+at-length : (P : ℕ → Type 0) (w : ℕ) → isLength w ≡ true → P 1 → P 2 → P 4 → P 8 → P w
 unfolding isLength
-power-tests w v h k = power-at w v _ _ _ _ refl refl refl refl h k
+at-length P w h = length-cases P w _ _ _ _ refl refl refl refl h
+
+pub length-small : (w : ℕ) → isLength w ≡ true → w < 256
+length-small w h = at-length (λ (x : ℕ). x < 256) w h (lit< tt) (lit< tt) (lit< tt) (lit< tt)
+
+-- `below_power`: no bit from 8 w on
+quotient-zero : (v m : ℕ) → 0 < m → eqb (v / m) 0 ≡ ltb v m
+quotient-zero v m p = pick (ltb v m) refl
+  where
+    pick : (b : Bool) → ltb v m ≡ b → eqb (v / m) 0 ≡ b
+    pick true h = eq-eqb (v / m) 0 (div-eq-of-lt (ltb-true v m h))
+    pick false h = ne-eqb (v / m) 0 λ e. let f : v < 1 * m = div-lt-iff-lt-mul {k = m} {x = v} {y = 1} p .0 (omega arith) in omega (arith, ltb-false v m h)
+
+shift-zero : (v k : ℕ) → eqb (v / 2 ^ k / 2 ^ 1) 0 ≡ ltb v (2 ^ (k + 1))
+shift-zero v k = ap (λ (x : ℕ). eqb x 0) (shr-shr v k 1) ∙ quotient-zero v (2 ^ (k + 1)) (pow-pos (k + 1))
+
+pub power-test : (w v : ℕ) → isLength w ≡ true → eqb (v / 2 ^ ((8 * w + 63) % 64) / 2 ^ 1) 0 ≡ ltb v (256 ^ w)
+power-test w v h =
+    at-length (λ (x : ℕ). eqb (v / 2 ^ ((8 * x + 63) % 64) / 2 ^ 1) 0 ≡ ltb v (256 ^ x)) w h (shift-zero v 7) (shift-zero v 15) (shift-zero v 31) (shift-zero v 63)
 
 -- `is_record`: what was found of the value counts where the length is one
 last-guarded : (p l o k v r : Bool) → (l ≡ true → r ≡ v) → (p && l && o && k && r) ≡ (p && l && o && k && v)

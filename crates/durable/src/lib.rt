@@ -35,12 +35,14 @@ pub fn is_length(w: usize) -> bool
     (w == 1) | (w == 2) | (w == 4) | (w == 8)
 }
 
-// A value is below 256 to the power w, where w is a length; at 8 bytes every value is.
+// A value is below 256 to the power w, where w is a length: its bits from 8 w on are zero, shifted twice since 64 at once is too far.
 // Lengths differ from row to row, so that a branch on them would be guessed wrong.
 fn below_power(w: usize, v: u64) -> bool
+    requires { ⌜ w < 256 ⌝ }
     ensures { λ r. ⌜ (isLength w ≡ true → r ≡ ltb v (256 ^ w)) ⌝ }
 {
-    ((w != 1) | (v < 256)) & ((w != 2) | (v < 65536)) & ((w != 4) | (v < 4294967296))
+    let most = (8 * w + 63) % 64;
+    (v >> most) >> 1 == 0
 }
 
 // A value is below 256 to the power of its length.

@@ -1,10 +1,10 @@
 -- `durable::value_fits` meets its contract: its length is one.
-use borrow.Author.Needs.{needs}
+use Rattle.durable.proofs.Laws.{length-small}
 use Rattle.durable.proofs.value_fits.Statement.{statement}
 use Rattle.durable.proofs.value_fits.Tie as tie
 
 below-power-requires : tie.Need-below-power-requires
-below-power-requires c κs = search needs
+below-power-requires c κs = length-small _ (c .pre)
 
 returns : tie.Need-returns
 returns c = c .below-power .ensures (c .before .pre)
