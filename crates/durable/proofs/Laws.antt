@@ -1,15 +1,16 @@
 -- Laws of the turns of the checking loops, of tests joined in a row, of the ranges and the lengths, and what the durable part's soundness gives.
-use Prim.Native.Nat.{ℕ, zero, suc, _+_, _*_, _-_, _^_, _≤_, _<_}
+use Prim.Native.Nat.{ℕ, zero, suc, _+_, _*_, _-_, _/_, _%_, _^_, _≤_, _<_}
 use native.Mathlib.Omega.{arith}
 use native.Mathlib.Numerals.{add-one}
-use native.Mathlib.Nat.{mul-le-mul}
-use mathlib.Core.Path.{_≡_, refl, sym, ap, _∙_}
-use mathlib.Core.Bool.{Bool, true, false, not, _&&_, _||_}
+use native.Mathlib.Nat.{mul-le-mul, div-eq-of-lt, div-lt-iff-lt-mul}
+use mathlib.Core.Path.{_≡_, refl, sym, ap, subst, _∙_}
+use mathlib.Core.Bool.{Bool, true, false, not, _&&_, _||_, and-true, and-assoc}
 use mathlib.Core.List.{List}
 use lib.ListN.{length, getD, take, drop, length-drop, drop-of-length-le}
 use lib.Seq.{drop-cons, take-all}
-use lib.Dec.{eqb, leb, ltb}
-use borrow.Author.Tests.{eqb-true, leb-true, eq-eqb, ne-eqb, le-leb, lt-leb, lt-ltb, not-true, not-false}
+use lib.Pow.{pow-pos, shr-shr}
+use lib.Dec.{eqb, leb, ltb, lit<}
+use borrow.Author.Tests.{eqb-true, leb-true, eq-eqb, ne-eqb, le-leb, lt-leb, ltb-true, ltb-false, not-true, not-false}
 use Rattle.record.specs.Rows.{rowAt, rows}
 use Rattle.record.specs.Record.{pageOf, offsetOf, lengthOf, kindOf, valueOf, isLength, wellFormed}
 use Rattle.word.specs.Word.{num}
@@ -55,29 +56,23 @@ refused {a} {b} e h = sym e ∙ not-true a h
 pub passed : {a b : Bool} → a ≡ b → not a ≡ false → b ≡ true
 passed {a} {b} e h = sym e ∙ not-false a h
 
--- a loop over n numbers that stops at the first that fails: none looked at yet, a turn, a stop and the end
+-- a loop over n numbers that joins what each test found: none looked at yet, a turn and the end
 pub upTo-none : (b : ℕ → Bool) (n : ℕ) → upTo b (n - 0) 0 ≡ upTo b n 0
 upTo-none b n = let e : n - 0 ≡ n = omega arith in rw e
 
-pub upTo-turn : (b : ℕ → Bool) (n i : ℕ) (x : Bool) → i < n → b i ≡ true → upTo b (n - i) i ≡ x → upTo b (n - (i + 1)) (i + 1) ≡ x
+pub upTo-turn : (b : ℕ → Bool) (n i : ℕ) (ok r x : Bool) → i < n → r ≡ b i → (ok && upTo b (n - i) i) ≡ x → (ok && r && upTo b (n - (i + 1)) (i + 1)) ≡ x
 unfolding upTo
-upTo-turn b n i x p h inv =
+upTo-turn b n i ok r x p h inv =
     let e : n - i ≡ suc (n - (i + 1)) = omega arith in
-    rw (e, h) at inv
+    rw h (and-assoc ok (b i) (upTo b (n - (i + 1)) (i + 1)) ∙ (rw e at inv))
 
-pub upTo-stop : (b : ℕ → Bool) (n i : ℕ) (x : Bool) → i < n → b i ≡ false → upTo b (n - i) i ≡ x → false ≡ x
+pub upTo-done : (b : ℕ → Bool) (n i : ℕ) (ok x : Bool) → n ≤ i → (ok && upTo b (n - i) i) ≡ x → ok ≡ x
 unfolding upTo
-upTo-stop b n i x p h inv =
-    let e : n - i ≡ suc (n - (i + 1)) = omega arith in
-    rw (e, h) at inv
-
-pub upTo-done : (b : ℕ → Bool) (n i : ℕ) (x : Bool) → n ≤ i → upTo b (n - i) i ≡ x → true ≡ x
-unfolding upTo
-upTo-done b n i x p inv =
+upTo-done b n i ok x p inv =
     let e : n - i ≡ 0 = omega arith in
-    rw e at inv
+    sym (and-true ok) ∙ (rw e at inv)
 
--- the same over n rows of a table
+-- a loop over n rows of a table that stops at the first that fails
 module _ (b : List ℕ → Bool) (w : ℕ) (t : List ℕ) (n : ℕ) where
   pub rows-none : every b (rows w (n - 0) t 0) ≡ every b (rows w n t 0)
   rows-none = let e : n - 0 ≡ n = omega arith in rw e
@@ -100,50 +95,58 @@ module _ (b : List ℕ → Bool) (w : ℕ) (t : List ℕ) (n : ℕ) where
       let e : n - i ≡ 0 = omega arith in
       rw e at inv
 
--- the same over bytes that are to be zero
-pub zeros-turn : (l : List ℕ) (i : ℕ) (x : Bool) → i < length l → getD l i 0 ≡ 0 → zeros (drop i l) ≡ x → zeros (drop (i + 1) l) ≡ x
+-- a loop that joins the tests of bytes that are to be zero
+pub zeros-turn : (l : List ℕ) (i : ℕ) (ok x : Bool) → i < length l → (ok && zeros (drop i l)) ≡ x → (ok && eqb (getD l i 0) 0 && zeros (drop (i + 1) l)) ≡ x
 unfolding zeros every
-zeros-turn l i x p h inv = rw add-one (rw (drop-cons l i 0 p, h) at inv)
+zeros-turn l i ok x p inv = rw add-one (and-assoc ok (eqb (getD l i 0) 0) (zeros (drop (suc i) l)) ∙ (rw (drop-cons l i 0 p) at inv))
 
-pub zeros-stop : (l : List ℕ) (i : ℕ) (x : Bool) → i < length l → (getD l i 0 ≡ 0 → ⊥) → zeros (drop i l) ≡ x → false ≡ x
+pub zeros-done : (l : List ℕ) (i : ℕ) (ok x : Bool) → length l ≤ i → (ok && zeros (drop i l)) ≡ x → ok ≡ x
 unfolding zeros every
-zeros-stop l i x p h inv = rw (drop-cons l i 0 p, ne-eqb (getD l i 0) 0 h) at inv
-
-pub zeros-done : (l : List ℕ) (i : ℕ) (x : Bool) → length l ≤ i → zeros (drop i l) ≡ x → true ≡ x
-unfolding zeros every
-zeros-done l i x p inv = rw (drop-of-length-le l {i = i} p) at inv
+zeros-done l i ok x p inv = sym (and-true ok) ∙ (rw (drop-of-length-le l {i = i} p) at inv)
 
 -- what is lent of a list from a place on
 pub rest-lent : (l : List ℕ) (a : ℕ) → take (length l - a) (drop a l) ≡ drop a l
 rest-lent l a = take-all (length l - a) (drop a l) (rw (length-drop a l) (omega arith))
 
--- a length that is none of 1, 2 and 4 is 8
-pub length-eight : (w : ℕ) → isLength w ≡ true → (w ≡ 1 → ⊥) → (w ≡ 2 → ⊥) → (w ≡ 4 → ⊥) → w ≡ 8
+-- what holds of 1, 2, 4 and 8 holds of a length
+length-cases : (P : ℕ → Type 0) (w : ℕ) (a b c d : Bool) → eqb w 1 ≡ a → eqb w 2 ≡ b → eqb w 4 ≡ c → eqb w 8 ≡ d → (a || b || c || d) ≡ true → P 1 → P 2 → P 4 → P 8 → P w
+length-cases P w true b c d ea eb ec ed h one two four eight = subst P (sym (eqb-true w 1 ea)) one
+length-cases P w false true c d ea eb ec ed h one two four eight = subst P (sym (eqb-true w 2 eb)) two
+length-cases P w false false true d ea eb ec ed h one two four eight = subst P (sym (eqb-true w 4 ec)) four
+length-cases P w false false false true ea eb ec ed h one two four eight = subst P (sym (eqb-true w 8 ed)) eight
+length-cases P w false false false false ea eb ec ed h one two four eight = let z : _≡_ {A = ℕ} 0 1 = cc in absurd (omega arith)
+
+at-length : (P : ℕ → Type 0) (w : ℕ) → isLength w ≡ true → P 1 → P 2 → P 4 → P 8 → P w
 unfolding isLength
-length-eight w h a b c = eqb-true w 8 (rw (ne-eqb w 1 a, ne-eqb w 2 b, ne-eqb w 4 c) at h)
+at-length P w h = length-cases P w _ _ _ _ refl refl refl refl h
 
-pub fits-at : (w k v : ℕ) → w ≡ k → ltb v (256 ^ k) ≡ ltb v (256 ^ w)
-fits-at w k v e = rw e
+pub length-small : (w : ℕ) → isLength w ≡ true → w < 256
+length-small w h = at-length (λ (x : ℕ). x < 256) w h (lit< tt) (lit< tt) (lit< tt) (lit< tt)
 
-pub fits-eight : (w v : ℕ) → w ≡ 8 → v < 2 ^ 64 → true ≡ ltb v (256 ^ w)
-fits-eight w v e h = rw e (sym (lt-ltb v (256 ^ 8) h))
+-- `below_power`: no bit from 8 w on
+quotient-zero : (v m : ℕ) → 0 < m → eqb (v / m) 0 ≡ ltb v m
+quotient-zero v m p = pick (ltb v m) refl
+  where
+    pick : (b : Bool) → ltb v m ≡ b → eqb (v / m) 0 ≡ b
+    pick true h = eq-eqb (v / m) 0 (div-eq-of-lt (ltb-true v m h))
+    pick false h = ne-eqb (v / m) 0 λ e. let f : v < 1 * m = div-lt-iff-lt-mul {k = m} {x = v} {y = 1} p .0 (omega arith) in omega (arith, ltb-false v m h)
 
--- `is_record`: a bad length, and a good one
-bad-second : (p l o k v : Bool) → l ≡ false → false ≡ (p && l && o && k && v)
-bad-second true l o k v h = rw h
-bad-second false l o k v h = refl
+shift-zero : (v k : ℕ) → eqb (v / 2 ^ k / 2 ^ 1) 0 ≡ ltb v (2 ^ (k + 1))
+shift-zero v k = ap (λ (x : ℕ). eqb x 0) (shr-shr v k 1) ∙ quotient-zero v (2 ^ (k + 1)) (pow-pos (k + 1))
 
-good-second : (p l o k v r : Bool) → l ≡ true → r ≡ v → (p && o && k && r) ≡ (p && l && o && k && v)
-good-second true l o k v r h e = rw (h, e)
-good-second false l o k v r h e = refl
+pub power-test : (w v : ℕ) → isLength w ≡ true → eqb (v / 2 ^ ((8 * w + 63) % 64) / 2 ^ 1) 0 ≡ ltb v (256 ^ w)
+power-test w v h =
+    at-length (λ (x : ℕ). eqb (v / 2 ^ ((8 * x + 63) % 64) / 2 ^ 1) 0 ≡ ltb v (256 ^ x)) w h (shift-zero v 7) (shift-zero v 15) (shift-zero v 31) (shift-zero v 63)
 
-pub record-length : (size pages page offset w kind v : ℕ) → isLength w ≡ false → false ≡ isRecord size pages page offset w kind v
+-- `is_record`: what was found of the value counts where the length is one
+last-guarded : (p l o k v r : Bool) → (l ≡ true → r ≡ v) → (p && l && o && k && r) ≡ (p && l && o && k && v)
+last-guarded true true o k v r e = rw (e refl)
+last-guarded true false o k v r e = refl
+last-guarded false l o k v r e = refl
+
+pub record-tests : (size pages page offset w kind v : ℕ) (l r : Bool) → l ≡ isLength w → (isLength w ≡ true → r ≡ ltb v (256 ^ w)) → (ltb page pages && l && leb (offset + w) size && leb kind 1 && r) ≡ isRecord size pages page offset w kind v
 unfolding isRecord
-record-length size pages page offset w kind v h = bad-second (ltb page pages) (isLength w) (leb (offset + w) size) (leb kind 1) (ltb v (256 ^ w)) h
-
-pub record-rest : (size pages page offset w kind v : ℕ) (r : Bool) → isLength w ≡ true → r ≡ ltb v (256 ^ w) → (ltb page pages && leb (offset + w) size && leb kind 1 && r) ≡ isRecord size pages page offset w kind v
-unfolding isRecord
-record-rest size pages page offset w kind v r h e = good-second (ltb page pages) (isLength w) (leb (offset + w) size) (leb kind 1) (ltb v (256 ^ w)) r h e
+record-tests size pages page offset w kind v l r e f = rw e (last-guarded (ltb page pages) (isLength w) (leb (offset + w) size) (leb kind 1) (ltb v (256 ^ w)) r f)
 
 -- `well_formed`: the fields are those of a row
 pub record-fields : (size pages page offset w kind v : ℕ) (r : List ℕ) (x : Bool) → page ≡ pageOf r → offset ≡ offsetOf r → w ≡ lengthOf r → kind ≡ kindOf r → v ≡ valueOf r → x ≡ isRecord size pages page offset w kind v → x ≡ wellFormed size pages r
@@ -160,12 +163,9 @@ counts-last last closed n span h k = rw (le-leb n span h, lt-leb n last k)
 pub counts-first : (last closed n span : ℕ) → n ≤ span → n ≤ last → leb (last - n + 1) (closed + 1) ≡ soundCounts last closed n span
 counts-first last closed n span h k = rw (le-leb n span h, le-leb n last k)
 
--- `page_stamps`: a stamp above L, and one within it
-pub stamp-past : (marks : List ℕ) (last p r : ℕ) → r ≡ num 4 marks (stampAt p) → last < r → stampWithin marks last p ≡ false
-stamp-past marks last p r e h = rw (← e) (lt-leb r last h)
-
-pub stamp-within : (marks : List ℕ) (last p r : ℕ) → r ≡ num 4 marks (stampAt p) → r ≤ last → stampWithin marks last p ≡ true
-stamp-within marks last p r e h = rw (← e) (le-leb r last h)
+-- `page_stamps`: the stamp tested is the page's
+pub stamp-read : (marks : List ℕ) (last p r : ℕ) → r ≡ num 4 marks (stampAt p) → leb r last ≡ stampWithin marks last p
+stamp-read marks last p r e = ap (λ (x : ℕ). leb x last) e
 
 -- `dirty_numbers`: the number tested is the page's
 pub dirty-read : (marks : List ℕ) (pages first closed p d : ℕ) (r : Bool) → d ≡ num 4 marks (dirtyAt pages p) → r ≡ soundDirty first closed d → r ≡ dirtyWithin marks pages first closed p

@@ -15,18 +15,17 @@ ghost use Rattle.durable.specs.Marks.{isRecord, soundCounts, stampWithin
 use number::LogNo;
 use number::PageNo;
 
-// Every byte is zero.
+// Every byte is zero. The loop looks at all of them: without a way out it is compiled to steps of many bytes.
 pub fn all_zero(s: &[u8]) -> bool
     ensures { λ r. ⌜ r ≡ zeros (now (s .entry)) ⌝ }
 {
+    let mut ok = true;
     let mut i = 0;
     while i < s.len() {
-        if s[i] != 0 {
-            return false;
-        }
+        ok = ok & (s[i] == 0);
         i += 1;
     }
-    true
+    ok
 }
 
 // A length is 1, 2, 4 or 8.
@@ -36,21 +35,22 @@ pub fn is_length(w: usize) -> bool
     (w == 1) | (w == 2) | (w == 4) | (w == 8)
 }
 
-// A value is below 256 to the power of its length; at 8 bytes every value is.
+// A value is below 256 to the power w, where w is a length: its bits from 8 w on are zero, shifted twice since 64 at once is too far.
+// Lengths differ from row to row, so that a branch on them would be guessed wrong.
+fn below_power(w: usize, v: u64) -> bool
+    requires { ⌜ w < 256 ⌝ }
+    ensures { λ r. ⌜ (isLength w ≡ true → r ≡ ltb v (256 ^ w)) ⌝ }
+{
+    let most = (8 * w + 63) % 64;
+    (v >> most) >> 1 == 0
+}
+
+// A value is below 256 to the power of its length.
 pub fn value_fits(w: usize, v: u64) -> bool
     requires { ⌜ isLength w ≡ true ⌝ }
     ensures { λ r. ⌜ r ≡ ltb v (256 ^ w) ⌝ }
 {
-    if w == 1 {
-        return v < 256;
-    }
-    if w == 2 {
-        return v < 65536;
-    }
-    if w == 4 {
-        return v < 4294967296;
-    }
-    true
+    below_power(w, v)
 }
 
 // The fields of a record are in their ranges.
@@ -66,10 +66,7 @@ fn is_record(
     requires { ⌜ (offset < 65536) × (w < 256) ⌝ }
     ensures { λ r. ⌜ r ≡ isRecord size pages (page .0) offset w kind v ⌝ }
 {
-    if !is_length(w) {
-        return false;
-    }
-    (page.0 < pages) & (offset + w <= size) & (kind <= 1) & value_fits(w, v)
+    (page.0 < pages) & is_length(w) & (offset + w <= size) & (kind <= 1) & below_power(w, v)
 }
 
 // Row i of a table whose rows have w bytes is a record.
@@ -119,14 +116,13 @@ fn page_stamps(marks: &[u8], pages: usize, last: LogNo) -> bool
     requires { ⌜ 12 + 8 * pages ≤ length (now marks) ⌝ }
     ensures { λ r. ⌜ r ≡ upTo (stampWithin (now (marks .entry)) (last .0)) pages 0 ⌝ }
 {
+    let mut ok = true;
     let mut p = 0;
     while p < pages {
-        if last.0 < word::load(marks, 12 + 4 * p, 4) {
-            return false;
-        }
+        ok = ok & (word::load(marks, 12 + 4 * p, 4) <= last.0);
         p += 1;
     }
-    true
+    ok
 }
 
 // K and every stamp are at most L.
@@ -149,15 +145,14 @@ fn dirty_numbers(marks: &[u8], pages: usize, first: LogNo, closed: LogNo) -> boo
     requires { ⌜ 12 + 8 * pages ≤ length (now marks) ⌝ }
     ensures { λ r. ⌜ r ≡ soundDirties (now (marks .entry)) pages (first .0) (closed .0) ⌝ }
 {
+    let mut ok = true;
     let mut p = 0;
     while p < pages {
         let d = LogNo(word::load(marks, 12 + 4 * pages + 4 * p, 4));
-        if !is_dirty_number(d, first, closed) {
-            return false;
-        }
+        ok = ok & is_dirty_number(d, first, closed);
         p += 1;
     }
-    true
+    ok
 }
 
 // A page size is 512, 1,024, 2,048 or 4,096.

@@ -1,19 +1,20 @@
--- `durable::dirty_numbers` meets its contract: the pages still to be looked at decide.
+-- `durable::dirty_numbers` meets its contract: what was found so far and the pages still to be looked at decide.
 use borrow.Author.Needs.{needs}
 use Prim.Native.Nat.{_-_, _≤_}
 use mathlib.Core.Path.{_≡_}
+use mathlib.Core.Bool.{_&&_}
 use denote.Ref.{now}
 use Rattle.rules.specs.Sound.{upTo}
 use Rattle.durable.specs.Marks.{dirtyWithin}
-use Rattle.durable.proofs.Laws.{upTo-none, upTo-turn, upTo-stop, upTo-done, refused, passed, dirty-read}
+use Rattle.durable.proofs.Laws.{upTo-none, upTo-turn, upTo-done, dirty-read}
 use Rattle.durable.proofs.dirty_numbers.Statement.{statement}
 use Rattle.durable.proofs.dirty_numbers.Tie as tie
 
 abbrev Inv-loop : tie.InvT-loop
-Inv-loop marks pages first closed p₀ p = (p ≤ pages) × (upTo (dirtyWithin marks pages (first .0) (closed .0)) (pages - p) p ≡ upTo (dirtyWithin marks pages (first .0) (closed .0)) pages 0)
+Inv-loop marks pages first closed ok₀ p₀ ok p = (p ≤ pages) × ((ok && upTo (dirtyWithin marks pages (first .0) (closed .0)) (pages - p) p) ≡ upTo (dirtyWithin marks pages (first .0) (closed .0)) pages 0)
 
 abbrev μ-loop : tie.MeasureT-loop
-μ-loop marks pages first closed p₀ p = pages - p
+μ-loop marks pages first closed ok₀ p₀ ok p = pages - p
 
 loop-holds : tie.Need-loop-holds Inv-loop μ-loop
 loop-holds c =
@@ -38,12 +39,6 @@ load-requires c κs = search needs
 is-dirty-number-requires : tie.Need-is-dirty-number-requires Inv-loop μ-loop
 is-dirty-number-requires c κs = search needs
 
-returns : tie.Need-returns Inv-loop μ-loop
-returns c =
-    let a = c .before .before .before .before .before .before .args in
-    upTo-stop (dirtyWithin (now (a .marks)) (a .pages) (a .first .0) (a .closed .0)) (a .pages) (c .before .before .before .before .loop .p) _ (c .before .before .before .loop-test .taken)
-    (refused (dirty-read (now (a .marks)) (a .pages) (a .first .0) (a .closed .0) (c .before .before .before .before .loop .p) _ _ (c .before .before .load .ensures .0) (c .before .is-dirty-number .ensures)) (c .if1 .taken)) (c .before .before .before .before .loop .inv .1)
-
 add-p : tie.Need-add-p Inv-loop μ-loop
 add-p c = search needs
 
@@ -52,16 +47,17 @@ loop-less c = search needs
 
 loop-again : tie.Need-loop-again Inv-loop μ-loop
 loop-again c =
-    let a = c .before .before .before .before .before .before .args in (
+    let a = c .before .before .before .before .before .args in
+    let l = c .before .before .before .loop in (
       search needs,
-      upTo-turn (dirtyWithin (now (a .marks)) (a .pages) (a .first .0) (a .closed .0)) (a .pages) (c .before .before .before .before .loop .p) _ (c .before .before .before .loop-test .taken)
-          (passed (dirty-read (now (a .marks)) (a .pages) (a .first .0) (a .closed .0) (c .before .before .before .before .loop .p) _ _ (c .before .before .load .ensures .0) (c .before .is-dirty-number .ensures)) (c .if1 .left)) (c .before .before .before .before .loop .inv .1),
+      upTo-turn (dirtyWithin (now (a .marks)) (a .pages) (a .first .0) (a .closed .0)) (a .pages) (l .p) (l .ok) _ _ (c .before .before .loop-test .taken)
+          (dirty-read (now (a .marks)) (a .pages) (a .first .0) (a .closed .0) (l .p) _ _ (c .before .load .ensures .0) (c .is-dirty-number .ensures)) (l .inv .1),
     )
 
-returns-2 : tie.Need-returns-2 Inv-loop μ-loop
-returns-2 c =
+returns : tie.Need-returns Inv-loop μ-loop
+returns c =
     let a = c .before .before .before .args in
-    upTo-done (dirtyWithin (now (a .marks)) (a .pages) (a .first .0) (a .closed .0)) (a .pages) (c .before .loop .p) _ (c .loop-test .left) (c .before .loop .inv .1)
+    upTo-done (dirtyWithin (now (a .marks)) (a .pages) (a .first .0) (a .closed .0)) (a .pages) (c .before .loop .p) _ _ (c .loop-test .left) (c .before .loop .inv .1)
 
 pub dirty-numbers-spec : {M : Type 1} → statement M
 dirty-numbers-spec =
@@ -76,8 +72,7 @@ dirty-numbers-spec =
     add-load-2
     load-requires
     is-dirty-number-requires
-    returns
     add-p
     loop-less
     loop-again
-    returns-2)
+    returns)
