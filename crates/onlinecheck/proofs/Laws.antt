@@ -3,7 +3,7 @@ use Prim.Native.Nat.{ℕ, suc, _+_, _*_, _-_, _^_, _≤_, _<_}
 use native.Mathlib.Omega.{arith}
 use native.Mathlib.Numerals.{add-one}
 use mathlib.Core.Path.{_≡_, refl, sym}
-use mathlib.Core.Bool.{Bool, true, false, cond, _&&_, and-false, and-true}
+use mathlib.Core.Bool.{Bool, true, false, cond, _&&_, and-false, and-true, and-assoc}
 use mathlib.Core.List.{List, [], _∷_}
 use lib.ListN.{length, getD, take, drop, drop-of-length-le}
 use lib.Seq.{drop-cons, take-take}
@@ -88,17 +88,13 @@ owned-number tables last l h = every-imp (owned tables last) (numberUpTo last) o
     one r k = pick (committed r) (numberOf r) (leb (ownerOf r) 32) (eqb (getD tables (2 + ownerOf r) 0) 1) k
 
 -- S14
-pub zeros-fail : (t : List ℕ) (i : ℕ) (z : Bool) → i < length t → (getD t i 0 ≡ 0 → ⊥) → zeros (drop i t) ≡ z → false ≡ z
+pub zeros-turn : (t : List ℕ) (i : ℕ) (ok z : Bool) → i < length t → (ok && zeros (drop i t)) ≡ z → (ok && eqb (getD t i 0) 0 && zeros (drop (i + 1) t)) ≡ z
 unfolding zeros every
-zeros-fail t i z p h inv = rw (drop-cons t i 0 p, ne-eqb (getD t i 0) 0 h) at inv
+zeros-turn t i ok z p inv = rw (add-one, and-assoc) (rw (drop-cons t i 0 p) at inv)
 
-pub zeros-turn : (t : List ℕ) (i : ℕ) (z : Bool) → i < length t → getD t i 0 ≡ 0 → zeros (drop i t) ≡ z → zeros (drop (i + 1) t) ≡ z
+pub zeros-done : (t : List ℕ) (i : ℕ) (ok z : Bool) → length t ≤ i → (ok && zeros (drop i t)) ≡ z → ok ≡ z
 unfolding zeros every
-zeros-turn t i z p h inv = rw add-one (rw (drop-cons t i 0 p, h) at inv)
-
-pub zeros-done : (t : List ℕ) (i : ℕ) (z : Bool) → length t ≤ i → zeros (drop i t) ≡ z → true ≡ z
-unfolding zeros every
-zeros-done t i z p inv = rw (drop-of-length-le t p) at inv
+zeros-done t i ok z p inv = rw (drop-of-length-le t p, and-true) at inv
 
 -- S10: bytes compared one by one
 part-cons : (a n : ℕ) (t : List ℕ) → a < length t → part a (suc n) t ≡ getD t a 0 ∷ part (a + 1) n t
