@@ -1,18 +1,18 @@
 -- Laws of the clauses: what each way out of a row's test shows, and the whole test as soundness's clauses.
-use Prim.Native.Nat.{ℕ, suc, _+_, _*_, _-_, _^_, _≤_, _<_}
+use Prim.Native.Nat.{ℕ, suc, _+_, _*_, _-_, _≤_, _<_}
 use native.Mathlib.Omega.{arith}
 use native.Mathlib.Numerals.{add-one}
-use mathlib.Core.Path.{_≡_, refl, sym}
-use mathlib.Core.Bool.{Bool, true, false, cond, _&&_, and-false, and-true, and-assoc}
+use mathlib.Core.Path.{_≡_, refl}
+use mathlib.Core.Bool.{Bool, true, false, cond, _&&_, and-true, and-assoc}
 use mathlib.Core.List.{List, [], _∷_}
 use lib.ListN.{length, getD, take, drop, drop-of-length-le}
 use lib.Seq.{drop-cons, take-take}
 use lib.Dec.{eqb, leb, ltb}
-use borrow.Author.Tests.{eqb-true, lt-ltb, le-leb, lt-leb, eq-eqb, ne-eqb}
+use borrow.Author.Tests.{eqb-true, le-leb, lt-leb, eq-eqb, ne-eqb}
 use Rattle.word.specs.Word.{num}
 use Rattle.record.specs.Part.{part}
 use Rattle.record.specs.Rows.{rowAt}
-use Rattle.record.specs.Record.{pageOf, offsetOf, lengthOf, kindOf, valueOf, ownerOf, numberOf, committed, bodyOf, isLength, wellFormed}
+use Rattle.record.specs.Record.{pageOf, ownerOf, numberOf, committed, bodyOf, wellFormed}
 use Rattle.rules.specs.Lent.{Lent, sizeOf, pagesOf, framesOf, lastOf, loggedOf, countOf}
 use Rattle.rules.specs.Sound.{every, between, zeros, same, apart, owning, s7-online-records, s8-owners, s14-online-zero, s10-in-log, s11-above-stamp, s9-number-once, s12-dirty, s13-apart}
 use Rattle.onlinecheck.specs.Online.{owned, inLog, aboveStamp, otherNumber, entryAgrees, pageBelow, numberUpTo, onlineTest}
@@ -23,35 +23,7 @@ pub online-is : (s : Lent) → onlineTest (s .lost .online) (countOf s) (s .dura
 unfolding owned owning inLog aboveStamp otherNumber entryAgrees onlineTest s7-online-records s8-owners s14-online-zero s10-in-log s11-above-stamp s9-number-once s12-dirty s13-apart
 online-is s = refl
 
--- S7: a number below the power of a length
-pub bytes-eight : (v w : ℕ) → w ≡ 8 → v < 2 ^ 64 → true ≡ ltb v (256 ^ w)
-bytes-eight v w e h = rw e (sym (lt-ltb v (2 ^ 64) h))
-
-pub bytes-four : (v w : ℕ) → w ≡ 4 → ltb v 4294967296 ≡ ltb v (256 ^ w)
-bytes-four v w e = rw e
-
-pub bytes-two : (v w : ℕ) → w ≡ 2 → ltb v 65536 ≡ ltb v (256 ^ w)
-bytes-two v w e = rw e
-
-pub bytes-one : (v w : ℕ) → isLength w ≡ true → (w ≡ 8 → ⊥) → (w ≡ 4 → ⊥) → (w ≡ 2 → ⊥) → ltb v 256 ≡ ltb v (256 ^ w)
-unfolding isLength
-bytes-one v w h a b d = go (eqb w 1) refl
-  where
-    go : (x : Bool) → eqb w 1 ≡ x → ltb v 256 ≡ ltb v (256 ^ w)
-    go true e = rw (eqb-true w 1 e)
-    go false e =
-        let f : false ≡ true = rw (e, ne-eqb w 2 d, ne-eqb w 4 b, ne-eqb w 8 a) at h in
-        let z : _≡_ {A = ℕ} 0 1 = cc in absurd (omega arith)
-
-pub formed-length : (size pages : ℕ) (r : List ℕ) (w : ℕ) → w ≡ lengthOf r → isLength w ≡ false → false ≡ wellFormed size pages r
-unfolding wellFormed
-formed-length size pages r w a h = rw (← a, h, and-false)
-
-pub formed-rest : (size pages : ℕ) (r : List ℕ) (w p offset kind v : ℕ) (x : Bool) → w ≡ lengthOf r → isLength w ≡ true → p ≡ pageOf r → offset ≡ offsetOf r → kind ≡ kindOf r → v ≡ valueOf r → x ≡ ltb v (256 ^ w) → (ltb p pages && leb (offset + w) size && leb kind 1 && x) ≡ wellFormed size pages r
-unfolding wellFormed
-formed-rest size pages r w p offset kind v x a h b d e f g = rw (← a, ← b, ← d, ← e, ← f, h, and-true, g)
-
--- what later clauses take from it
+-- S7: what later clauses take from it
 pub formed-page : (size pages : ℕ) (l : List (List ℕ)) → every (wellFormed size pages) l ≡ true → every (pageBelow pages) l ≡ true
 unfolding wellFormed
 formed-page size pages l h = every-imp (wellFormed size pages) (pageBelow pages) one l h
