@@ -1,14 +1,14 @@
 -- Laws of the clauses: what each way out of a row's test shows, and the whole test as soundness's clauses.
-use Prim.Native.Nat.{ℕ, suc, _+_, _*_, _-_, _≤_, _<_}
+use Prim.Native.Nat.{ℕ, zero, suc, _+_, _*_, _-_, _≤_, _<_}
 use native.Mathlib.Omega.{arith}
 use native.Mathlib.Numerals.{add-one}
-use mathlib.Core.Path.{_≡_, refl}
+use mathlib.Core.Path.{_≡_, refl, sym, ap, _∙_}
 use mathlib.Core.Bool.{Bool, true, false, cond, _&&_, and-true, and-assoc}
 use mathlib.Core.List.{List, [], _∷_}
 use lib.ListN.{length, getD, take, drop, drop-of-length-le}
 use lib.Seq.{drop-cons, take-take}
 use lib.Dec.{eqb, leb, ltb}
-use borrow.Author.Tests.{eqb-true, le-leb, lt-leb, eq-eqb, ne-eqb}
+use borrow.Author.Tests.{eqb-true, eqb-false, le-leb, lt-leb, eq-eqb, ne-eqb}
 use Rattle.word.specs.Word.{num}
 use Rattle.record.specs.Part.{part}
 use Rattle.record.specs.Rows.{rowAt}
@@ -68,7 +68,7 @@ pub zeros-done : (t : List ℕ) (i : ℕ) (ok z : Bool) → length t ≤ i → (
 unfolding zeros every
 zeros-done t i ok z p inv = rw (drop-of-length-le t p, and-true) at inv
 
--- S10: bytes compared one by one
+-- S10: equal words have equal bytes
 part-cons : (a n : ℕ) (t : List ℕ) → a < length t → part a (suc n) t ≡ getD t a 0 ∷ part (a + 1) n t
 part-cons a n t h = rw (drop-cons t a 0 h, add-one)
 
@@ -76,27 +76,56 @@ same-step : (t l : List ℕ) (a b n : ℕ) → a < length t → b < length l →
 unfolding same
 same-step t l a b n p q = rw (part-cons a n t p, part-cons b n l q)
 
-pub same-none : (t l : List ℕ) (a b : ℕ) → same (part (a + 0) (14 - 0) t) (part (b + 0) (14 - 0) l) ≡ same (take 14 (part a 19 t)) (part b 14 l)
-same-none t l a b =
-    let e : a + 0 ≡ a = omega arith in
-    let f : b + 0 ≡ b = omega arith in
-    rw (e, f, take-take 14 19 (drop a t) (omega arith))
+byte-more : (x y n m : ℕ) → x < 256 → y < 256 → eqb (x + 256 * n) (y + 256 * m) ≡ (eqb x y && eqb n m)
+byte-more x y n m p q = pick (eqb x y) (eqb n m) refl refl
+  where
+    pick : (u v : Bool) → eqb x y ≡ u → eqb n m ≡ v → eqb (x + 256 * n) (y + 256 * m) ≡ (eqb x y && eqb n m)
+    pick true true e f =
+        let a = eqb-true x y e in
+        let b = eqb-true n m f in
+        rw (e, f) (eq-eqb (x + 256 * n) (y + 256 * m) (omega arith))
+    pick true false e f =
+        let a = eqb-true x y e in
+        rw (e, f) (ne-eqb (x + 256 * n) (y + 256 * m) (λ g. eqb-false n m f (omega arith)))
+    pick false v e f = rw e (ne-eqb (x + 256 * n) (y + 256 * m) (λ g. eqb-false x y e (omega arith)))
 
-pub same-fail : (t l : List ℕ) (a b k : ℕ) (z : Bool) → k < 14 → a + k < length t → b + k < length l → (getD t (a + k) 0 ≡ getD l (b + k) 0 → ⊥) → same (part (a + k) (14 - k) t) (part (b + k) (14 - k) l) ≡ z → false ≡ z
-same-fail t l a b k z h p q d inv =
-    let n : 14 - k ≡ suc (14 - (k + 1)) = omega arith in
-    rw (n, same-step t l (a + k) (b + k) (14 - (k + 1)) p q, ne-eqb _ _ d) at inv
+module _ (t l : List ℕ) where
+  num-same : ((i : ℕ) → getD t i 0 < 256) → ((i : ℕ) → getD l i 0 < 256) → (w a b : ℕ) → a + w ≤ length t → b + w ≤ length l → eqb (num w t a) (num w l b) ≡ same (part a w t) (part b w l)
+  unfolding num same
+  num-same f g zero a b p q = refl
+  num-same f g (suc w) a b p q =
+      byte-more (getD t a 0) (getD l b 0) (num w t (a + 1)) (num w l (b + 1)) (f a) (g b)
+      ∙ ap (λ (x : Bool). eqb (getD t a 0) (getD l b 0) && x) (num-same f g w (a + 1) (b + 1) (omega arith) (omega arith))
+      ∙ sym (same-step t l a b w (omega arith) (omega arith))
 
-pub same-turn : (t l : List ℕ) (a b k : ℕ) (z : Bool) → k < 14 → a + k < length t → b + k < length l → getD t (a + k) 0 ≡ getD l (b + k) 0 → same (part (a + k) (14 - k) t) (part (b + k) (14 - k) l) ≡ z → same (part (a + (k + 1)) (14 - (k + 1)) t) (part (b + (k + 1)) (14 - (k + 1)) l) ≡ z
-same-turn t l a b k z h p q d inv =
-    let n : 14 - k ≡ suc (14 - (k + 1)) = omega arith in
-    let e : a + (k + 1) ≡ a + k + 1 = omega arith in
-    let f : b + (k + 1) ≡ b + k + 1 = omega arith in
-    rw (e, f) (rw (n, same-step t l (a + k) (b + k) (14 - (k + 1)) p q, eq-eqb _ _ d) at inv)
+  -- two words that were read
+  pub word-same : ((i : ℕ) → getD t i 0 < 256) → ((i : ℕ) → getD l i 0 < 256) → (w a b x y : ℕ) → a + w ≤ length t → b + w ≤ length l → x ≡ num w t a → y ≡ num w l b → eqb x y ≡ same (part a w t) (part b w l)
+  word-same f g w a b x y p q d e = rw (d, e) (num-same f g w a b p q)
 
-pub same-done : (t l : List ℕ) (a b k : ℕ) (z : Bool) → 14 ≤ k → same (part (a + k) (14 - k) t) (part (b + k) (14 - k) l) ≡ z → true ≡ z
-unfolding same
-same-done t l a b k z h inv = let n : 14 - k ≡ 0 = omega arith in rw n at inv
+  same-join : (v w a b : ℕ) → a + (v + w) ≤ length t → b + (v + w) ≤ length l → same (part a (v + w) t) (part b (v + w) l) ≡ (same (part a v t) (part b v l) && same (part (a + v) w t) (part (b + v) w l))
+  unfolding same
+  same-join zero w a b p q =
+      let e : 0 + w ≡ w = omega arith in
+      let n : a + 0 ≡ a = omega arith in
+      let m : b + 0 ≡ b = omega arith in
+      rw (e, n, m)
+  same-join (suc v) w a b p q =
+      let e : suc v + w ≡ suc (v + w) = omega arith in
+      let n : a + suc v ≡ a + 1 + v = omega arith in
+      let m : b + suc v ≡ b + 1 + v = omega arith in
+      rw (e, n, m, same-step t l a b (v + w) (omega arith) (omega arith), same-step t l a b v (omega arith) (omega arith), same-join v w (a + 1) (b + 1) (omega arith) (omega arith), and-assoc)
+
+  -- the 14 bytes of a record, as words of 4, 4, 4 and 2
+  pub same-words : (a b : ℕ) (x y z u : Bool) → a + 19 ≤ length t → b + 14 ≤ length l → x ≡ same (part a 4 t) (part b 4 l) → y ≡ same (part (a + 4) 4 t) (part (b + 4) 4 l) → z ≡ same (part (a + 8) 4 t) (part (b + 8) 4 l) → u ≡ same (part (a + 12) 2 t) (part (b + 12) 2 l) → (x && y && z && u) ≡ same (take 14 (part a 19 t)) (part b 14 l)
+  same-words a b x y z u p q d e f g =
+      let n : a + 4 + 4 ≡ a + 8 = omega arith in
+      let m : b + 4 + 4 ≡ b + 8 = omega arith in
+      let k : a + 8 + 4 ≡ a + 12 = omega arith in
+      let j : b + 8 + 4 ≡ b + 12 = omega arith in
+      let s : same (part a 14 t) (part b 14 l) ≡ (same (part a 4 t) (part b 4 l) && same (part (a + 4) 10 t) (part (b + 4) 10 l)) = same-join 4 10 a b (omega arith) (omega arith) in
+      let v : same (part (a + 4) 10 t) (part (b + 4) 10 l) ≡ (same (part (a + 4) 4 t) (part (b + 4) 4 l) && same (part (a + 8) 6 t) (part (b + 8) 6 l)) = rw (n, m) at (same-join 4 6 (a + 4) (b + 4) (omega arith) (omega arith)) in
+      let w : same (part (a + 8) 6 t) (part (b + 8) 6 l) ≡ (same (part (a + 8) 4 t) (part (b + 8) 4 l) && same (part (a + 12) 2 t) (part (b + 12) 2 l)) = rw (k, j) at (same-join 4 2 (a + 8) (b + 8) (omega arith) (omega arith)) in
+      rw (take-take 14 19 (drop a t) (omega arith), s, v, w, d, e, f, g) (simp and-assoc)
 
 pub log-free : (log : List ℕ) (first : ℕ) (r : List ℕ) (x : ℕ) → x ≡ ownerOf r → (x ≡ 0 → ⊥) → true ≡ inLog log first r
 unfolding inLog
