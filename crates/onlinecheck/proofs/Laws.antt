@@ -3,7 +3,7 @@ use Prim.Native.Nat.{ℕ, zero, suc, _+_, _*_, _-_, _≤_, _<_}
 use native.Mathlib.Omega.{arith}
 use native.Mathlib.Numerals.{add-one}
 use mathlib.Core.Path.{_≡_, refl, sym, ap, _∙_}
-use mathlib.Core.Bool.{Bool, true, false, cond, _&&_, and-true, and-assoc}
+use mathlib.Core.Bool.{Bool, true, false, cond, not, _&&_, _||_, and-true, and-assoc, or-true}
 use mathlib.Core.List.{List, [], _∷_}
 use lib.ListN.{length, getD, take, drop, drop-of-length-le}
 use lib.Seq.{drop-cons, take-take}
@@ -11,10 +11,10 @@ use lib.Dec.{eqb, leb, ltb}
 use borrow.Author.Tests.{eqb-true, eqb-false, le-leb, lt-leb, eq-eqb, ne-eqb}
 use Rattle.word.specs.Word.{num}
 use Rattle.record.specs.Part.{part}
-use Rattle.record.specs.Rows.{rowAt}
+use Rattle.record.specs.Rows.{rowAt, rows}
 use Rattle.record.specs.Record.{pageOf, ownerOf, numberOf, committed, bodyOf, wellFormed}
 use Rattle.rules.specs.Lent.{Lent, sizeOf, pagesOf, framesOf, lastOf, loggedOf, countOf}
-use Rattle.rules.specs.Sound.{every, between, zeros, same, apart, owning, s7-online-records, s8-owners, s14-online-zero, s10-in-log, s11-above-stamp, s9-number-once, s12-dirty, s13-apart}
+use Rattle.rules.specs.Sound.{every, pairs, between, zeros, same, apart, owning, s7-online-records, s8-owners, s14-online-zero, s10-in-log, s11-above-stamp, s9-number-once, s12-dirty, s13-apart}
 use Rattle.onlinecheck.specs.Online.{owned, inLog, aboveStamp, otherNumber, entryAgrees, pageBelow, numberUpTo, onlineTest}
 use Rattle.onlinecheck.proofs.Rows.{and-both, every-imp}
 
@@ -154,3 +154,61 @@ pub apart-all : (r : List ℕ) (x : ℕ) → x ≡ ownerOf r → x ≡ 0 → (l 
 unfolding every apart
 apart-all r x e h [] = refl
 apart-all r x e h (q ∷ l) = rw (← e, h) (apart-all r x e h l)
+
+-- a row that is committed, or of the owner y: rows that are so are apart
+abbrev pub ofOne : ℕ → List ℕ → Bool
+ofOne y r = eqb (ownerOf r) 0 || eqb (ownerOf r) y
+
+one-apart : (y : ℕ) (r q : List ℕ) → ofOne y r ≡ true → ofOne y q ≡ true → apart r q ≡ true
+unfolding apart
+one-apart y r q h k = pick (eqb (ownerOf r) 0) (eqb (ownerOf q) 0) refl refl
+  where
+    pick : (u v : Bool) → eqb (ownerOf r) 0 ≡ u → eqb (ownerOf q) 0 ≡ v → apart r q ≡ true
+    pick true v e f = rw e
+    pick false true e f = rw (e, f)
+    pick false false e f =
+        let a : ownerOf r ≡ y = eqb-true (ownerOf r) y (rw e at h) in
+        let b : ownerOf q ≡ y = eqb-true (ownerOf q) y (rw f at k) in
+        rw (e, f, eq-eqb (ownerOf r) (ownerOf q) (a ∙ sym b))
+
+one-pairs : (y : ℕ) (l : List (List ℕ)) → every (ofOne y) l ≡ true → pairs apart l ≡ true
+unfolding every pairs
+one-pairs y [] h = refl
+one-pairs y (r ∷ l) h =
+    let u = and-both (ofOne y r) (every (ofOne y) l) h in
+    rw (every-imp (ofOne y) (apart r) (λ q k. one-apart y r q (u .0) k) l (u .1)) (one-pairs y l (u .1))
+
+-- the loop over the rows, from the last: before it, past a committed row, past an owner's, at the end
+module _ (t : List ℕ) (m : ℕ) where
+  pub one-none : every (ofOne 0) (rows 19 (m - m) t m) ≡ true
+  unfolding every rows
+  one-none = let n : m - m ≡ 0 = omega arith in rw n
+
+  one-turn : (i j mine next : ℕ) → i ≡ j + 1 → i ≤ m → ofOne next (rowAt 19 t j) ≡ true → ((r : List ℕ) → ofOne mine r ≡ true → ofOne next r ≡ true) → every (ofOne mine) (rows 19 (m - i) t i) ≡ true → every (ofOne next) (rows 19 (m - j) t j) ≡ true
+  unfolding every rows
+  one-turn i j mine next e h d f inv =
+      let n : m - j ≡ suc (m - (j + 1)) = omega arith in
+      rw (n, d) (every-imp (ofOne mine) (ofOne next) f (rows 19 (m - (j + 1)) t (j + 1)) (rw e at inv))
+
+  pub one-committed : (i j mine x : ℕ) → i ≡ j + 1 → i ≤ m → x ≡ ownerOf (rowAt 19 t j) → x ≡ 0 → every (ofOne mine) (rows 19 (m - i) t i) ≡ true → every (ofOne mine) (rows 19 (m - j) t j) ≡ true
+  one-committed i j mine x e h a z inv = one-turn i j mine mine e h (rw (← a, z)) (λ r k. k) inv
+
+  pub one-owned : (i j mine x : ℕ) → i ≡ j + 1 → i ≤ m → x ≡ ownerOf (rowAt 19 t j) → (x ≡ 0 → ⊥) → (not (eqb x 0) && not (eqb mine 0) && not (eqb x mine)) ≡ false → every (ofOne mine) (rows 19 (m - i) t i) ≡ true → every (ofOne x) (rows 19 (m - j) t j) ≡ true
+  one-owned i j mine x e h a z c inv = one-turn i j mine x e h (rw (← a, eq-eqb x x refl, or-true)) (other (eqb mine 0) (eqb x mine) refl refl) inv
+    where
+      none : (y : Bool) (k : ℕ) → (y || y) ≡ true → (y || eqb k x) ≡ true
+      none true k h = refl
+      none false k h = let w : _≡_ {A = ℕ} 0 1 = cc in absurd (omega arith)
+
+      other : (u v : Bool) → eqb mine 0 ≡ u → eqb x mine ≡ v → (r : List ℕ) → ofOne mine r ≡ true → ofOne x r ≡ true
+      other u true f g r k = rw (eqb-true x mine g) k
+      other true false f g r k = none (eqb (ownerOf r) 0) (ownerOf r) (rw (eqb-true mine 0 f) at k)
+      other false false f g r k =
+          let b : true ≡ false = rw (ne-eqb x 0 z, f, g) at c in
+          let w : _≡_ {A = ℕ} 0 1 = cc in absurd (omega arith)
+
+  pub one-done : (i mine : ℕ) → i ≤ 0 → every (ofOne mine) (rows 19 (m - i) t i) ≡ true → pairs apart (rows 19 m t 0) ≡ true
+  one-done i mine h inv =
+      let n : i ≡ 0 = omega arith in
+      let k : m - 0 ≡ m = omega arith in
+      one-pairs mine (rows 19 m t 0) (rw (n, k) at inv)

@@ -118,7 +118,7 @@ fn pages_apart(
 }
 
 // 512 is no row's index.
-pub fn all_apart(t: &[u8], m: usize, pages: usize) -> bool
+fn by_pages(t: &[u8], m: usize, pages: usize) -> bool
     requires { ⌜ (m * 19 ≤ length (now t)) × (m ≤ 512) × (pages ≤ 1024) × (every (pageBelow pages) (rows 19 m (now t) 0) ≡ true) × (every placed (rows 19 m (now t) 0) ≡ true) ⌝ }
     ensures { λ r. ⌜ r ≡ pairs apart (rows 19 m (now (t .entry)) 0) ⌝ }
 {
@@ -127,4 +127,35 @@ pub fn all_apart(t: &[u8], m: usize, pages: usize) -> bool
     let mut marks = [0u16; 4096];
     link(t, m, &mut heads, &mut after);
     pages_apart(t, m, pages, &heads, &after, &mut marks)
+}
+
+// No uncommitted row is of another owner than the last that was seen; 0 while none was.
+fn one_owner(t: &[u8], m: usize) -> bool
+    requires { ⌜ m * 19 ≤ length (now t) ⌝ }
+    ensures { λ r. ⌜ (r ≡ true → pairs apart (rows 19 m (now (t .entry)) 0) ≡ true) ⌝ }
+{
+    let mut mine = 0u8;
+    let mut i = m;
+    while 0 < i {
+        i -= 1;
+        let x = record::owner_of(t, i);
+        if (x != 0) & (mine != 0) & (x != mine) {
+            return false;
+        }
+        if x != 0 {
+            mine = x;
+        }
+    }
+    true
+}
+
+// The rows of one owner clash with none, so chains and marks are for two owners or more.
+pub fn all_apart(t: &[u8], m: usize, pages: usize) -> bool
+    requires { ⌜ (m * 19 ≤ length (now t)) × (m ≤ 512) × (pages ≤ 1024) × (every (pageBelow pages) (rows 19 m (now t) 0) ≡ true) × (every placed (rows 19 m (now t) 0) ≡ true) ⌝ }
+    ensures { λ r. ⌜ r ≡ pairs apart (rows 19 m (now (t .entry)) 0) ⌝ }
+{
+    if one_owner(t, m) {
+        return true;
+    }
+    by_pages(t, m, pages)
 }
