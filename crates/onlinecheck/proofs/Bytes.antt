@@ -12,7 +12,7 @@ use Rattle.record.specs.Rows.{keep, consIf}
 use Rattle.record.specs.Record.{pageOf, offsetOf, lengthOf, ownerOf, numberOf, committed, shareByte, isLength, wellFormed}
 use Rattle.rules.specs.Sound.{every, pairs, upTo, between, apart}
 use Rattle.onlinecheck.specs.Online.{owned, pageBelow}
-use Rattle.onlinecheck.specs.Bytes.{openOn, placed, freeByte, markBytes, freeRow, withRow, freeRows, withRows, freePages}
+use Rattle.onlinecheck.specs.Bytes.{openOn, placed, freeByte, markBytes, freeRow, withRow, freeRows, withRows, crowd, freePages}
 use Rattle.onlinecheck.proofs.Rows.{and-both, passed, failed, upTo-fail, upTo-turn, upTo-done}
 use Rattle.onlinecheck.proofs.Laws.{apart-all}
 
@@ -263,14 +263,29 @@ keep-every d (r ∷ l) = pick (d r) refl (keep-every d l)
     pick true e k = rw e k
     pick false e k = k
 
+-- leaving out a row that is alone keeps what all pass, and what each two do
+crowd-every : (b : List ℕ → Bool) (l : List (List ℕ)) → every b l ≡ true → every b (crowd l) ≡ true
+unfolding every
+crowd-every b [] h = refl
+crowd-every b (r ∷ []) h = refl
+crowd-every b (r ∷ (q ∷ l)) h = h
+
+crowd-pairs : (l : List (List ℕ)) → pairs apart (crowd l) ≡ pairs apart l
+unfolding every pairs
+crowd-pairs [] = refl
+crowd-pairs (r ∷ []) = refl
+crowd-pairs (r ∷ (q ∷ l)) = refl
+
 -- page by page, from marks that no page from p on has set
 pages-are : (rs : List (List ℕ)) (n p : ℕ) (a : List ℕ) → length a ≡ 4096 → ((b : ℕ) → getD a b 0 ≤ p * 64) → every placed rs ≡ true → freePages rs n p a ≡ upTo (λ (q : ℕ). pairs apart (keep (openOn q) rs)) n p
 unfolding upTo freePages
 pages-are rs zero p a n f h = refl
 pages-are rs (suc k) p a n f h =
-    let l = keep (openOn p) rs in
-    let g : every placed l ≡ true = every-keep placed (openOn p) rs h in
-    let e : freeRows (p * 64) a l ≡ pairs apart l = rows-apart p (p * 64) l a n f (keep-every (openOn p) rs) g in
+    let s = keep (openOn p) rs in
+    let l = crowd s in
+    let g : every placed l ≡ true = crowd-every placed s (every-keep placed (openOn p) rs h) in
+    let o : every (openOn p) l ≡ true = crowd-every (openOn p) s (keep-every (openOn p) rs) in
+    let e : freeRows (p * 64) a l ≡ pairs apart s = rows-apart p (p * 64) l a n f o g ∙ crowd-pairs s in
     let d = pages-are rs k (p + 1) (withRows (p * 64) a l) (rows-length (p * 64) l a ∙ n) (rows-most ((p + 1) * 64) (p * 64) l a (omega arith) g (λ b. omega (arith, f b))) h in
     rw (e, d)
 
@@ -421,14 +436,14 @@ row-taken base marks d r x a w y e f g h k =
 pub each-none : (rs : List (List ℕ)) (pages : ℕ) (a : List ℕ) → freePages rs (pages - 0) 0 a ≡ freePages rs pages 0 a
 each-none rs pages a = let n : pages - 0 ≡ pages = omega arith in rw n
 
-pub each-fail : (rs : List (List ℕ)) (pages p : ℕ) (a : List ℕ) (x z : Bool) → p < pages → not x ≡ true → x ≡ freeRows (p * 64) a (keep (openOn p) rs) → freePages rs (pages - p) p a ≡ z → false ≡ z
+pub each-fail : (rs : List (List ℕ)) (pages p : ℕ) (a : List ℕ) (x z : Bool) → p < pages → not x ≡ true → x ≡ freeRows (p * 64) a (crowd (keep (openOn p) rs)) → freePages rs (pages - p) p a ≡ z → false ≡ z
 unfolding freePages
 each-fail rs pages p a x z h n e inv =
     let k : pages - p ≡ suc (pages - (p + 1)) = omega arith in
     let f = failed e n in
     rw (k, f) at inv
 
-pub each-turn : (rs : List (List ℕ)) (pages p : ℕ) (a b : List ℕ) (x z : Bool) → p < pages → not x ≡ false → x ≡ freeRows (p * 64) a (keep (openOn p) rs) → (x ≡ true → b ≡ withRows (p * 64) a (keep (openOn p) rs)) → freePages rs (pages - p) p a ≡ z → freePages rs (pages - (p + 1)) (p + 1) b ≡ z
+pub each-turn : (rs : List (List ℕ)) (pages p : ℕ) (a b : List ℕ) (x z : Bool) → p < pages → not x ≡ false → x ≡ freeRows (p * 64) a (crowd (keep (openOn p) rs)) → (x ≡ true → b ≡ withRows (p * 64) a (crowd (keep (openOn p) rs))) → freePages rs (pages - p) p a ≡ z → freePages rs (pages - (p + 1)) (p + 1) b ≡ z
 unfolding freePages
 each-turn rs pages p a b x z h n e g inv =
     let k : pages - p ≡ suc (pages - (p + 1)) = omega arith in

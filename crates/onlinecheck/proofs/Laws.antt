@@ -1,20 +1,20 @@
 -- Laws of the clauses: what each way out of a row's test shows, and the whole test as soundness's clauses.
-use Prim.Native.Nat.{ℕ, suc, _+_, _*_, _-_, _^_, _≤_, _<_}
+use Prim.Native.Nat.{ℕ, zero, suc, _+_, _*_, _-_, _≤_, _<_}
 use native.Mathlib.Omega.{arith}
 use native.Mathlib.Numerals.{add-one}
-use mathlib.Core.Path.{_≡_, refl, sym}
-use mathlib.Core.Bool.{Bool, true, false, cond, _&&_, and-false, and-true}
+use mathlib.Core.Path.{_≡_, refl, sym, ap, _∙_}
+use mathlib.Core.Bool.{Bool, true, false, cond, not, _&&_, _||_, and-true, and-assoc, or-true}
 use mathlib.Core.List.{List, [], _∷_}
 use lib.ListN.{length, getD, take, drop, drop-of-length-le}
 use lib.Seq.{drop-cons, take-take}
 use lib.Dec.{eqb, leb, ltb}
-use borrow.Author.Tests.{eqb-true, lt-ltb, le-leb, lt-leb, eq-eqb, ne-eqb}
+use borrow.Author.Tests.{eqb-true, eqb-false, le-leb, lt-leb, eq-eqb, ne-eqb}
 use Rattle.word.specs.Word.{num}
 use Rattle.record.specs.Part.{part}
-use Rattle.record.specs.Rows.{rowAt}
-use Rattle.record.specs.Record.{pageOf, offsetOf, lengthOf, kindOf, valueOf, ownerOf, numberOf, committed, bodyOf, isLength, wellFormed}
+use Rattle.record.specs.Rows.{rowAt, rows}
+use Rattle.record.specs.Record.{pageOf, ownerOf, numberOf, committed, bodyOf, wellFormed}
 use Rattle.rules.specs.Lent.{Lent, sizeOf, pagesOf, framesOf, lastOf, loggedOf, countOf}
-use Rattle.rules.specs.Sound.{every, between, zeros, same, apart, owning, s7-online-records, s8-owners, s14-online-zero, s10-in-log, s11-above-stamp, s9-number-once, s12-dirty, s13-apart}
+use Rattle.rules.specs.Sound.{every, pairs, between, zeros, same, apart, owning, s7-online-records, s8-owners, s14-online-zero, s10-in-log, s11-above-stamp, s9-number-once, s12-dirty, s13-apart}
 use Rattle.onlinecheck.specs.Online.{owned, inLog, aboveStamp, otherNumber, entryAgrees, pageBelow, numberUpTo, onlineTest}
 use Rattle.onlinecheck.proofs.Rows.{and-both, every-imp}
 
@@ -23,35 +23,7 @@ pub online-is : (s : Lent) → onlineTest (s .lost .online) (countOf s) (s .dura
 unfolding owned owning inLog aboveStamp otherNumber entryAgrees onlineTest s7-online-records s8-owners s14-online-zero s10-in-log s11-above-stamp s9-number-once s12-dirty s13-apart
 online-is s = refl
 
--- S7: a number below the power of a length
-pub bytes-eight : (v w : ℕ) → w ≡ 8 → v < 2 ^ 64 → true ≡ ltb v (256 ^ w)
-bytes-eight v w e h = rw e (sym (lt-ltb v (2 ^ 64) h))
-
-pub bytes-four : (v w : ℕ) → w ≡ 4 → ltb v 4294967296 ≡ ltb v (256 ^ w)
-bytes-four v w e = rw e
-
-pub bytes-two : (v w : ℕ) → w ≡ 2 → ltb v 65536 ≡ ltb v (256 ^ w)
-bytes-two v w e = rw e
-
-pub bytes-one : (v w : ℕ) → isLength w ≡ true → (w ≡ 8 → ⊥) → (w ≡ 4 → ⊥) → (w ≡ 2 → ⊥) → ltb v 256 ≡ ltb v (256 ^ w)
-unfolding isLength
-bytes-one v w h a b d = go (eqb w 1) refl
-  where
-    go : (x : Bool) → eqb w 1 ≡ x → ltb v 256 ≡ ltb v (256 ^ w)
-    go true e = rw (eqb-true w 1 e)
-    go false e =
-        let f : false ≡ true = rw (e, ne-eqb w 2 d, ne-eqb w 4 b, ne-eqb w 8 a) at h in
-        let z : _≡_ {A = ℕ} 0 1 = cc in absurd (omega arith)
-
-pub formed-length : (size pages : ℕ) (r : List ℕ) (w : ℕ) → w ≡ lengthOf r → isLength w ≡ false → false ≡ wellFormed size pages r
-unfolding wellFormed
-formed-length size pages r w a h = rw (← a, h, and-false)
-
-pub formed-rest : (size pages : ℕ) (r : List ℕ) (w p offset kind v : ℕ) (x : Bool) → w ≡ lengthOf r → isLength w ≡ true → p ≡ pageOf r → offset ≡ offsetOf r → kind ≡ kindOf r → v ≡ valueOf r → x ≡ ltb v (256 ^ w) → (ltb p pages && leb (offset + w) size && leb kind 1 && x) ≡ wellFormed size pages r
-unfolding wellFormed
-formed-rest size pages r w p offset kind v x a h b d e f g = rw (← a, ← b, ← d, ← e, ← f, h, and-true, g)
-
--- what later clauses take from it
+-- S7: what later clauses take from it
 pub formed-page : (size pages : ℕ) (l : List (List ℕ)) → every (wellFormed size pages) l ≡ true → every (pageBelow pages) l ≡ true
 unfolding wellFormed
 formed-page size pages l h = every-imp (wellFormed size pages) (pageBelow pages) one l h
@@ -88,19 +60,15 @@ owned-number tables last l h = every-imp (owned tables last) (numberUpTo last) o
     one r k = pick (committed r) (numberOf r) (leb (ownerOf r) 32) (eqb (getD tables (2 + ownerOf r) 0) 1) k
 
 -- S14
-pub zeros-fail : (t : List ℕ) (i : ℕ) (z : Bool) → i < length t → (getD t i 0 ≡ 0 → ⊥) → zeros (drop i t) ≡ z → false ≡ z
+pub zeros-turn : (t : List ℕ) (i : ℕ) (ok z : Bool) → i < length t → (ok && zeros (drop i t)) ≡ z → (ok && eqb (getD t i 0) 0 && zeros (drop (i + 1) t)) ≡ z
 unfolding zeros every
-zeros-fail t i z p h inv = rw (drop-cons t i 0 p, ne-eqb (getD t i 0) 0 h) at inv
+zeros-turn t i ok z p inv = rw (add-one, and-assoc) (rw (drop-cons t i 0 p) at inv)
 
-pub zeros-turn : (t : List ℕ) (i : ℕ) (z : Bool) → i < length t → getD t i 0 ≡ 0 → zeros (drop i t) ≡ z → zeros (drop (i + 1) t) ≡ z
+pub zeros-done : (t : List ℕ) (i : ℕ) (ok z : Bool) → length t ≤ i → (ok && zeros (drop i t)) ≡ z → ok ≡ z
 unfolding zeros every
-zeros-turn t i z p h inv = rw add-one (rw (drop-cons t i 0 p, h) at inv)
+zeros-done t i ok z p inv = rw (drop-of-length-le t p, and-true) at inv
 
-pub zeros-done : (t : List ℕ) (i : ℕ) (z : Bool) → length t ≤ i → zeros (drop i t) ≡ z → true ≡ z
-unfolding zeros every
-zeros-done t i z p inv = rw (drop-of-length-le t p) at inv
-
--- S10: bytes compared one by one
+-- S10: equal words have equal bytes
 part-cons : (a n : ℕ) (t : List ℕ) → a < length t → part a (suc n) t ≡ getD t a 0 ∷ part (a + 1) n t
 part-cons a n t h = rw (drop-cons t a 0 h, add-one)
 
@@ -108,27 +76,56 @@ same-step : (t l : List ℕ) (a b n : ℕ) → a < length t → b < length l →
 unfolding same
 same-step t l a b n p q = rw (part-cons a n t p, part-cons b n l q)
 
-pub same-none : (t l : List ℕ) (a b : ℕ) → same (part (a + 0) (14 - 0) t) (part (b + 0) (14 - 0) l) ≡ same (take 14 (part a 19 t)) (part b 14 l)
-same-none t l a b =
-    let e : a + 0 ≡ a = omega arith in
-    let f : b + 0 ≡ b = omega arith in
-    rw (e, f, take-take 14 19 (drop a t) (omega arith))
+byte-more : (x y n m : ℕ) → x < 256 → y < 256 → eqb (x + 256 * n) (y + 256 * m) ≡ (eqb x y && eqb n m)
+byte-more x y n m p q = pick (eqb x y) (eqb n m) refl refl
+  where
+    pick : (u v : Bool) → eqb x y ≡ u → eqb n m ≡ v → eqb (x + 256 * n) (y + 256 * m) ≡ (eqb x y && eqb n m)
+    pick true true e f =
+        let a = eqb-true x y e in
+        let b = eqb-true n m f in
+        rw (e, f) (eq-eqb (x + 256 * n) (y + 256 * m) (omega arith))
+    pick true false e f =
+        let a = eqb-true x y e in
+        rw (e, f) (ne-eqb (x + 256 * n) (y + 256 * m) (λ g. eqb-false n m f (omega arith)))
+    pick false v e f = rw e (ne-eqb (x + 256 * n) (y + 256 * m) (λ g. eqb-false x y e (omega arith)))
 
-pub same-fail : (t l : List ℕ) (a b k : ℕ) (z : Bool) → k < 14 → a + k < length t → b + k < length l → (getD t (a + k) 0 ≡ getD l (b + k) 0 → ⊥) → same (part (a + k) (14 - k) t) (part (b + k) (14 - k) l) ≡ z → false ≡ z
-same-fail t l a b k z h p q d inv =
-    let n : 14 - k ≡ suc (14 - (k + 1)) = omega arith in
-    rw (n, same-step t l (a + k) (b + k) (14 - (k + 1)) p q, ne-eqb _ _ d) at inv
+module _ (t l : List ℕ) where
+  num-same : ((i : ℕ) → getD t i 0 < 256) → ((i : ℕ) → getD l i 0 < 256) → (w a b : ℕ) → a + w ≤ length t → b + w ≤ length l → eqb (num w t a) (num w l b) ≡ same (part a w t) (part b w l)
+  unfolding num same
+  num-same f g zero a b p q = refl
+  num-same f g (suc w) a b p q =
+      byte-more (getD t a 0) (getD l b 0) (num w t (a + 1)) (num w l (b + 1)) (f a) (g b)
+      ∙ ap (λ (x : Bool). eqb (getD t a 0) (getD l b 0) && x) (num-same f g w (a + 1) (b + 1) (omega arith) (omega arith))
+      ∙ sym (same-step t l a b w (omega arith) (omega arith))
 
-pub same-turn : (t l : List ℕ) (a b k : ℕ) (z : Bool) → k < 14 → a + k < length t → b + k < length l → getD t (a + k) 0 ≡ getD l (b + k) 0 → same (part (a + k) (14 - k) t) (part (b + k) (14 - k) l) ≡ z → same (part (a + (k + 1)) (14 - (k + 1)) t) (part (b + (k + 1)) (14 - (k + 1)) l) ≡ z
-same-turn t l a b k z h p q d inv =
-    let n : 14 - k ≡ suc (14 - (k + 1)) = omega arith in
-    let e : a + (k + 1) ≡ a + k + 1 = omega arith in
-    let f : b + (k + 1) ≡ b + k + 1 = omega arith in
-    rw (e, f) (rw (n, same-step t l (a + k) (b + k) (14 - (k + 1)) p q, eq-eqb _ _ d) at inv)
+  -- two words that were read
+  pub word-same : ((i : ℕ) → getD t i 0 < 256) → ((i : ℕ) → getD l i 0 < 256) → (w a b x y : ℕ) → a + w ≤ length t → b + w ≤ length l → x ≡ num w t a → y ≡ num w l b → eqb x y ≡ same (part a w t) (part b w l)
+  word-same f g w a b x y p q d e = rw (d, e) (num-same f g w a b p q)
 
-pub same-done : (t l : List ℕ) (a b k : ℕ) (z : Bool) → 14 ≤ k → same (part (a + k) (14 - k) t) (part (b + k) (14 - k) l) ≡ z → true ≡ z
-unfolding same
-same-done t l a b k z h inv = let n : 14 - k ≡ 0 = omega arith in rw n at inv
+  same-join : (v w a b : ℕ) → a + (v + w) ≤ length t → b + (v + w) ≤ length l → same (part a (v + w) t) (part b (v + w) l) ≡ (same (part a v t) (part b v l) && same (part (a + v) w t) (part (b + v) w l))
+  unfolding same
+  same-join zero w a b p q =
+      let e : 0 + w ≡ w = omega arith in
+      let n : a + 0 ≡ a = omega arith in
+      let m : b + 0 ≡ b = omega arith in
+      rw (e, n, m)
+  same-join (suc v) w a b p q =
+      let e : suc v + w ≡ suc (v + w) = omega arith in
+      let n : a + suc v ≡ a + 1 + v = omega arith in
+      let m : b + suc v ≡ b + 1 + v = omega arith in
+      rw (e, n, m, same-step t l a b (v + w) (omega arith) (omega arith), same-step t l a b v (omega arith) (omega arith), same-join v w (a + 1) (b + 1) (omega arith) (omega arith), and-assoc)
+
+  -- the 14 bytes of a record, as words of 4, 4, 4 and 2
+  pub same-words : (a b : ℕ) (x y z u : Bool) → a + 19 ≤ length t → b + 14 ≤ length l → x ≡ same (part a 4 t) (part b 4 l) → y ≡ same (part (a + 4) 4 t) (part (b + 4) 4 l) → z ≡ same (part (a + 8) 4 t) (part (b + 8) 4 l) → u ≡ same (part (a + 12) 2 t) (part (b + 12) 2 l) → (x && y && z && u) ≡ same (take 14 (part a 19 t)) (part b 14 l)
+  same-words a b x y z u p q d e f g =
+      let n : a + 4 + 4 ≡ a + 8 = omega arith in
+      let m : b + 4 + 4 ≡ b + 8 = omega arith in
+      let k : a + 8 + 4 ≡ a + 12 = omega arith in
+      let j : b + 8 + 4 ≡ b + 12 = omega arith in
+      let s : same (part a 14 t) (part b 14 l) ≡ (same (part a 4 t) (part b 4 l) && same (part (a + 4) 10 t) (part (b + 4) 10 l)) = same-join 4 10 a b (omega arith) (omega arith) in
+      let v : same (part (a + 4) 10 t) (part (b + 4) 10 l) ≡ (same (part (a + 4) 4 t) (part (b + 4) 4 l) && same (part (a + 8) 6 t) (part (b + 8) 6 l)) = rw (n, m) at (same-join 4 6 (a + 4) (b + 4) (omega arith) (omega arith)) in
+      let w : same (part (a + 8) 6 t) (part (b + 8) 6 l) ≡ (same (part (a + 8) 4 t) (part (b + 8) 4 l) && same (part (a + 12) 2 t) (part (b + 12) 2 l)) = rw (k, j) at (same-join 4 2 (a + 8) (b + 8) (omega arith) (omega arith)) in
+      rw (take-take 14 19 (drop a t) (omega arith), s, v, w, d, e, f, g) (simp and-assoc)
 
 pub log-free : (log : List ℕ) (first : ℕ) (r : List ℕ) (x : ℕ) → x ≡ ownerOf r → (x ≡ 0 → ⊥) → true ≡ inLog log first r
 unfolding inLog
@@ -157,3 +154,61 @@ pub apart-all : (r : List ℕ) (x : ℕ) → x ≡ ownerOf r → x ≡ 0 → (l 
 unfolding every apart
 apart-all r x e h [] = refl
 apart-all r x e h (q ∷ l) = rw (← e, h) (apart-all r x e h l)
+
+-- a row that is committed, or of the owner y: rows that are so are apart
+abbrev pub ofOne : ℕ → List ℕ → Bool
+ofOne y r = eqb (ownerOf r) 0 || eqb (ownerOf r) y
+
+one-apart : (y : ℕ) (r q : List ℕ) → ofOne y r ≡ true → ofOne y q ≡ true → apart r q ≡ true
+unfolding apart
+one-apart y r q h k = pick (eqb (ownerOf r) 0) (eqb (ownerOf q) 0) refl refl
+  where
+    pick : (u v : Bool) → eqb (ownerOf r) 0 ≡ u → eqb (ownerOf q) 0 ≡ v → apart r q ≡ true
+    pick true v e f = rw e
+    pick false true e f = rw (e, f)
+    pick false false e f =
+        let a : ownerOf r ≡ y = eqb-true (ownerOf r) y (rw e at h) in
+        let b : ownerOf q ≡ y = eqb-true (ownerOf q) y (rw f at k) in
+        rw (e, f, eq-eqb (ownerOf r) (ownerOf q) (a ∙ sym b))
+
+one-pairs : (y : ℕ) (l : List (List ℕ)) → every (ofOne y) l ≡ true → pairs apart l ≡ true
+unfolding every pairs
+one-pairs y [] h = refl
+one-pairs y (r ∷ l) h =
+    let u = and-both (ofOne y r) (every (ofOne y) l) h in
+    rw (every-imp (ofOne y) (apart r) (λ q k. one-apart y r q (u .0) k) l (u .1)) (one-pairs y l (u .1))
+
+-- the loop over the rows, from the last: before it, past a committed row, past an owner's, at the end
+module _ (t : List ℕ) (m : ℕ) where
+  pub one-none : every (ofOne 0) (rows 19 (m - m) t m) ≡ true
+  unfolding every rows
+  one-none = let n : m - m ≡ 0 = omega arith in rw n
+
+  one-turn : (i j mine next : ℕ) → i ≡ j + 1 → i ≤ m → ofOne next (rowAt 19 t j) ≡ true → ((r : List ℕ) → ofOne mine r ≡ true → ofOne next r ≡ true) → every (ofOne mine) (rows 19 (m - i) t i) ≡ true → every (ofOne next) (rows 19 (m - j) t j) ≡ true
+  unfolding every rows
+  one-turn i j mine next e h d f inv =
+      let n : m - j ≡ suc (m - (j + 1)) = omega arith in
+      rw (n, d) (every-imp (ofOne mine) (ofOne next) f (rows 19 (m - (j + 1)) t (j + 1)) (rw e at inv))
+
+  pub one-committed : (i j mine x : ℕ) → i ≡ j + 1 → i ≤ m → x ≡ ownerOf (rowAt 19 t j) → x ≡ 0 → every (ofOne mine) (rows 19 (m - i) t i) ≡ true → every (ofOne mine) (rows 19 (m - j) t j) ≡ true
+  one-committed i j mine x e h a z inv = one-turn i j mine mine e h (rw (← a, z)) (λ r k. k) inv
+
+  pub one-owned : (i j mine x : ℕ) → i ≡ j + 1 → i ≤ m → x ≡ ownerOf (rowAt 19 t j) → (x ≡ 0 → ⊥) → (not (eqb x 0) && not (eqb mine 0) && not (eqb x mine)) ≡ false → every (ofOne mine) (rows 19 (m - i) t i) ≡ true → every (ofOne x) (rows 19 (m - j) t j) ≡ true
+  one-owned i j mine x e h a z c inv = one-turn i j mine x e h (rw (← a, eq-eqb x x refl, or-true)) (other (eqb mine 0) (eqb x mine) refl refl) inv
+    where
+      none : (y : Bool) (k : ℕ) → (y || y) ≡ true → (y || eqb k x) ≡ true
+      none true k h = refl
+      none false k h = let w : _≡_ {A = ℕ} 0 1 = cc in absurd (omega arith)
+
+      other : (u v : Bool) → eqb mine 0 ≡ u → eqb x mine ≡ v → (r : List ℕ) → ofOne mine r ≡ true → ofOne x r ≡ true
+      other u true f g r k = rw (eqb-true x mine g) k
+      other true false f g r k = none (eqb (ownerOf r) 0) (ownerOf r) (rw (eqb-true mine 0 f) at k)
+      other false false f g r k =
+          let b : true ≡ false = rw (ne-eqb x 0 z, f, g) at c in
+          let w : _≡_ {A = ℕ} 0 1 = cc in absurd (omega arith)
+
+  pub one-done : (i mine : ℕ) → i ≤ 0 → every (ofOne mine) (rows 19 (m - i) t i) ≡ true → pairs apart (rows 19 m t 0) ≡ true
+  one-done i mine h inv =
+      let n : i ≡ 0 = omega arith in
+      let k : m - 0 ≡ m = omega arith in
+      one-pairs mine (rows 19 m t 0) (rw (n, k) at inv)

@@ -2,7 +2,7 @@
 use Prim.Native.Nat.{ℕ, zero, suc, _+_, _-_, _%_, _≤_, _<_}
 use native.Mathlib.Omega.{arith}
 use mathlib.Core.Path.{_≡_, refl, sym, ap, _∙_}
-use mathlib.Core.Bool.{Bool, true, false, cond, not, _&&_, _||_, and-true, and-false, and-assoc, or-true, or-false}
+use mathlib.Core.Bool.{Bool, true, false, cond, not, _&&_, _||_, Bool·beq, and-true, and-false, and-assoc, or-true, or-false}
 use mathlib.Core.List.{List, [], _∷_}
 use lib.ListN.{length, getD, set, replicate, length-set, length-replicate, getD-replicate}
 use lib.Seq.{getD-set-same, getD-set-other}
@@ -69,13 +69,15 @@ unfolding markPages rows
 pages-done w m t i a z h inv = let n : m - i ≡ 0 = omega arith in rw n at inv
 
 -- the entry's byte and the page's mark
-pub marked-dirty : (tables : List ℕ) (frames pages p : ℕ) (a : List ℕ) → p < pages → getD tables (35 + frames + p) 0 % 2 ≡ 1 → eqb (getD a p 0) 1 ≡ entryMarked (part (35 + frames) pages tables) a p
-unfolding entryMarked
-marked-dirty tables frames pages p a h d = rw (getD-part p (35 + frames) pages tables h, d)
+beq-agree : (x y : Bool) → Bool·beq x y ≡ agree x y
+beq-agree true true = refl
+beq-agree true false = refl
+beq-agree false true = refl
+beq-agree false false = refl
 
-pub marked-clean : (tables : List ℕ) (frames pages p : ℕ) (a : List ℕ) → p < pages → (getD tables (35 + frames + p) 0 % 2 ≡ 1 → ⊥) → not (eqb (getD a p 0) 1) ≡ entryMarked (part (35 + frames) pages tables) a p
+pub marked-read : (tables : List ℕ) (frames pages p : ℕ) (a : List ℕ) → p < pages → Bool·beq (eqb (getD tables (35 + frames + p) 0 % 2) 1) (eqb (getD a p 0) 1) ≡ entryMarked (part (35 + frames) pages tables) a p
 unfolding entryMarked
-marked-clean tables frames pages p a h d = rw (getD-part p (35 + frames) pages tables h, ne-eqb _ 1 d)
+marked-read tables frames pages p a h = rw (getD-part p (35 + frames) pages tables h) (beq-agree (eqb (getD tables (35 + frames + p) 0 % 2) 1) (eqb (getD a p 0) 1))
 
 -- S9: what S8 and S10 say of the numbers
 slots-of : (first last n k : ℕ) (x y z u : Bool) → first ≡ last - n + 1 → n ≤ last → n ≤ 2048 → cond x (between 1 k last) (y && eqb k 0 && z) ≡ true → (not x || (leb first k && u)) ≡ true → (eqb k 0 || (leb first k && ltb (k - first) 2048)) ≡ true

@@ -2,7 +2,7 @@
 use Prim.Native.Nat.{ℕ, zero, suc, _+_, _-_, _≤_, _<_}
 use native.Mathlib.Omega.{arith}
 use mathlib.Core.Path.{_≡_, refl, sym, _∙_}
-use mathlib.Core.Bool.{Bool, true, false, not, _&&_}
+use mathlib.Core.Bool.{Bool, true, false, not, _&&_, and-true, and-assoc}
 use mathlib.Core.List.{List, [], _∷_}
 use borrow.Author.Tests.{not-true, not-false}
 use Rattle.record.specs.Rows.{rowAt, rows}
@@ -86,3 +86,14 @@ upTo-turn b m i x z p h e inv =
 pub upTo-done : (b : ℕ → Bool) (m i : ℕ) (z : Bool) → m ≤ i → upTo b (m - i) i ≡ z → true ≡ z
 unfolding upTo
 upTo-done b m i z p inv = let n : m - i ≡ 0 = omega arith in rw n at inv
+
+-- a loop that goes through all numbers and joins their tests: past a number, at the end
+pub upTo-join : (b : ℕ → Bool) (m i : ℕ) (ok x z : Bool) → i < m → x ≡ b i → (ok && upTo b (m - i) i) ≡ z → (ok && x && upTo b (m - (i + 1)) (i + 1)) ≡ z
+unfolding upTo
+upTo-join b m i ok x z p e inv =
+    let n : m - i ≡ suc (m - (i + 1)) = omega arith in
+    rw (and-assoc, e) (rw n at inv)
+
+pub upTo-joined : (b : ℕ → Bool) (m i : ℕ) (ok z : Bool) → m ≤ i → (ok && upTo b (m - i) i) ≡ z → ok ≡ z
+unfolding upTo
+upTo-joined b m i ok z p inv = let n : m - i ≡ 0 = omega arith in rw (n, and-true) at inv

@@ -62,7 +62,13 @@ unfoldable pub withRows : ℕ → List ℕ → List (List ℕ) → List ℕ
 withRows base a [] = a
 withRows base a (r ∷ l) = withRows base (withRow base a r) l
 
+-- the rows of a page that has two or more: one alone clashes with none
+abbrev pub crowd : List (List ℕ) → List (List ℕ)
+crowd [] = []
+crowd (r ∷ []) = []
+crowd (r ∷ (q ∷ l)) = r ∷ (q ∷ l)
+
 -- so on each of n pages from p on
 unfoldable pub freePages : List (List ℕ) → ℕ → ℕ → List ℕ → Bool
 freePages rs zero p a = true
-freePages rs (suc n) p a = freeRows (p * 64) a (keep (openOn p) rs) && freePages rs n (p + 1) (withRows (p * 64) a (keep (openOn p) rs))
+freePages rs (suc n) p a = freeRows (p * 64) a (crowd (keep (openOn p) rs)) && freePages rs n (p + 1) (withRows (p * 64) a (crowd (keep (openOn p) rs)))

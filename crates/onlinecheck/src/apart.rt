@@ -9,7 +9,7 @@ ghost use Rattle.record.specs.Rows.{rowAt, rows, keep};
 ghost use Rattle.record.specs.Record.{pageOf};
 ghost use Rattle.rules.specs.Sound.{every, pairs, upTo, apart};
 ghost use Rattle.onlinecheck.specs.Online.{pageBelow};
-ghost use Rattle.onlinecheck.specs.Bytes.{openOn, placed, Linked, headsWith, afterWith, freeByte, markBytes, freeRow, withRow, freeRows, withRows, freePages};
+ghost use Rattle.onlinecheck.specs.Bytes.{openOn, placed, Linked, headsWith, afterWith, freeByte, markBytes, freeRow, withRow, freeRows, withRows, crowd, freePages};
 
 // Row i goes in front of its page's chain, unless it is committed.
 fn link_row(t: &[u8], i: usize, heads: &mut [u16; 1024], after: &mut [u16; 512])
@@ -74,7 +74,7 @@ fn index(v: u16) -> usize
 }
 
 // The uncommitted rows of page p, by its chain.
-fn page_apart(
+fn chain_apart(
     t: &[u8],
     m: usize,
     p: usize,
@@ -94,6 +94,29 @@ fn page_apart(
         j = index(after[j]);
     }
     true
+}
+
+// A row that is alone on its page clashes with none, and its bytes need no mark: other pages look at none of this page.
+fn page_apart(
+    t: &[u8],
+    m: usize,
+    p: usize,
+    heads: &[u16; 1024],
+    after: &[u16; 512],
+    marks: &mut [u16; 4096],
+) -> bool
+    requires { ⌜ (m * 19 ≤ length (now t)) × (m ≤ 512) × (p < 1024) × (every placed (rows 19 m (now t) 0) ≡ true) × Linked (now t) m 0 (now heads) (now after) ⌝ }
+    ensures { λ r. ⌜ (r ≡ freeRows (p * 64) (now (marks .entry)) (crowd (keep (openOn p) (rows 19 m (now (t .entry)) 0)))) × (r ≡ true → now (marks .exit) ≡ withRows (p * 64) (now (marks .entry)) (crowd (keep (openOn p) (rows 19 m (now (t .entry)) 0)))) ⌝ }
+{
+    let head = index(heads[p]);
+    if m <= head {
+        return true;
+    }
+    let next = index(after[head]);
+    if m <= next {
+        return true;
+    }
+    chain_apart(t, m, p, heads, after, marks)
 }
 
 fn pages_apart(
@@ -118,7 +141,7 @@ fn pages_apart(
 }
 
 // 512 is no row's index.
-pub fn all_apart(t: &[u8], m: usize, pages: usize) -> bool
+fn by_pages(t: &[u8], m: usize, pages: usize) -> bool
     requires { ⌜ (m * 19 ≤ length (now t)) × (m ≤ 512) × (pages ≤ 1024) × (every (pageBelow pages) (rows 19 m (now t) 0) ≡ true) × (every placed (rows 19 m (now t) 0) ≡ true) ⌝ }
     ensures { λ r. ⌜ r ≡ pairs apart (rows 19 m (now (t .entry)) 0) ⌝ }
 {
@@ -127,4 +150,35 @@ pub fn all_apart(t: &[u8], m: usize, pages: usize) -> bool
     let mut marks = [0u16; 4096];
     link(t, m, &mut heads, &mut after);
     pages_apart(t, m, pages, &heads, &after, &mut marks)
+}
+
+// No uncommitted row is of another owner than the last that was seen; 0 while none was.
+fn one_owner(t: &[u8], m: usize) -> bool
+    requires { ⌜ m * 19 ≤ length (now t) ⌝ }
+    ensures { λ r. ⌜ (r ≡ true → pairs apart (rows 19 m (now (t .entry)) 0) ≡ true) ⌝ }
+{
+    let mut mine = 0u8;
+    let mut i = m;
+    while 0 < i {
+        i -= 1;
+        let x = record::owner_of(t, i);
+        if (x != 0) & (mine != 0) & (x != mine) {
+            return false;
+        }
+        if x != 0 {
+            mine = x;
+        }
+    }
+    true
+}
+
+// The rows of one owner clash with none, so chains and marks are for two owners or more.
+pub fn all_apart(t: &[u8], m: usize, pages: usize) -> bool
+    requires { ⌜ (m * 19 ≤ length (now t)) × (m ≤ 512) × (pages ≤ 1024) × (every (pageBelow pages) (rows 19 m (now t) 0) ≡ true) × (every placed (rows 19 m (now t) 0) ≡ true) ⌝ }
+    ensures { λ r. ⌜ r ≡ pairs apart (rows 19 m (now (t .entry)) 0) ⌝ }
+{
+    if one_owner(t, m) {
+        return true;
+    }
+    by_pages(t, m, pages)
 }

@@ -29,24 +29,21 @@ fn agrees(tables: &[u8], pages: usize, frames: usize, p: usize, marks: &[u8; 102
 {
     let e = tables[35 + frames + p];
     let has = marks[p];
-    if e % 2 == 1 {
-        return has == 1;
-    }
-    !(has == 1)
+    (e % 2 == 1) == (has == 1)
 }
 
+// Goes through all pages: an entry is clean or dirty as it comes, and a branch on it would be foretold badly.
 fn all_marked(tables: &[u8], pages: usize, frames: usize, marks: &[u8; 1024]) -> bool
     requires { ⌜ (length (now tables) ≡ 35 + frames + pages) × (pages ≤ 1024) ⌝ }
     ensures { λ r. ⌜ r ≡ upTo (entryMarked (part (35 + frames) pages (now (tables .entry))) (now (marks .entry))) pages 0 ⌝ }
 {
+    let mut ok = true;
     let mut p = 0;
     while p < pages {
-        if !agrees(tables, pages, frames, p, marks) {
-            return false;
-        }
+        ok = ok & agrees(tables, pages, frames, p, marks);
         p += 1;
     }
-    true
+    ok
 }
 
 pub fn all_agree(t: &[u8], m: usize, tables: &[u8], pages: usize, frames: usize) -> bool

@@ -8,21 +8,17 @@ ghost use Rattle.record.specs.Record.{numberOf, bodyOf};
 ghost use Rattle.rules.specs.Sound.{every, same};
 ghost use Rattle.onlinecheck.specs.Online.{inLog, numberUpTo};
 
-// The record of online row i is log row j, byte for byte.
+// The record of online row i is log row j, byte for byte: compared as words, since equal words have equal bytes.
 fn same_row(t: &[u8], i: usize, log: &[u8], j: usize) -> bool
     requires { ⌜ (i * 19 + 19 ≤ length (now t)) × (j * 14 + 14 ≤ length (now log)) ⌝ }
     ensures { λ r. ⌜ r ≡ same (bodyOf (rowAt 19 (now (t .entry)) i)) (rowAt 14 (now (log .entry)) j) ⌝ }
 {
     let a = i * 19;
     let b = j * 14;
-    let mut k = 0;
-    while k < 14 {
-        if t[a + k] != log[b + k] {
-            return false;
-        }
-        k += 1;
-    }
-    true
+    (word::load(t, a, 4) == word::load(log, b, 4))
+        & (word::load(t, a + 4, 4) == word::load(log, b + 4, 4))
+        & (word::load(t, a + 8, 4) == word::load(log, b + 8, 4))
+        & (word::load(t, a + 12, 2) == word::load(log, b + 12, 2))
 }
 
 fn is_logged(t: &[u8], i: usize, log: &[u8], n: usize, last: u64) -> bool

@@ -1,25 +1,20 @@
--- `onlinecheck::apart::all_apart` meets its contract: from empty chains and no marks, rows free page by page are apart.
+-- `onlinecheck::apart::all_apart` meets its contract: rows of one owner are apart, and others are looked at page by page.
 use borrow.Author.Needs.{needs}
-use denote.Ref.{now}
-use Rattle.record.specs.Rows.{rows}
-use Rattle.onlinecheck.proofs.Marks.{pages-within}
-use Rattle.onlinecheck.proofs.Chains.{link-start}
-use Rattle.onlinecheck.proofs.Bytes.{free-apart}
+use mathlib.Core.Path.{sym}
 use Rattle.onlinecheck.proofs.apart.all_apart.Statement.{statement}
 use Rattle.onlinecheck.proofs.apart.all_apart.Tie as tie
 
-link-requires : tie.Need-link-requires
-link-requires c κs =
-    let s = c .before .before .before in
-    (s .pre .0, s .pre .1, pages-within (s .args .pages) (rows 19 (s .args .m) (now (s .args .t)) 0) (s .pre .2) (s .pre .3), link-start (now (s .args .t)) (s .args .m) (s .pre .1))
-
-pages-apart-requires : tie.Need-pages-apart-requires
-pages-apart-requires c κs = search needs
+one-owner-requires : tie.Need-one-owner-requires
+one-owner-requires c κs = search needs
 
 returns : tie.Need-returns
-returns c =
-    let s = c .before .before .before .before .before .before .before .before in
-    free-apart (s .args .pages) (rows 19 (s .args .m) (now (s .args .t)) 0) _ (s .pre .3) (s .pre .4) (c .pages-apart .ensures)
+returns c = sym (c .before .one-owner .ensures (c .if1 .taken))
+
+by-pages-requires : tie.Need-by-pages-requires
+by-pages-requires c κs = search needs
+
+returns-2 : tie.Need-returns-2
+returns-2 c = search needs
 
 pub all-apart-spec : {M : Type 1} → statement M
-all-apart-spec = tie.close (tie.spec link-requires pages-apart-requires returns)
+all-apart-spec = tie.close (tie.spec one-owner-requires returns by-pages-requires returns-2)

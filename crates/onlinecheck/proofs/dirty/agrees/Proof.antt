@@ -1,7 +1,7 @@
 -- `onlinecheck::dirty::agrees` meets its contract: the page's entry and its mark are the bytes read.
 use borrow.Author.Needs.{needs}
 use denote.Ref.{now}
-use Rattle.onlinecheck.proofs.Marks.{marked-dirty, marked-clean}
+use Rattle.onlinecheck.proofs.Marks.{marked-read}
 use Rattle.onlinecheck.proofs.dirty.agrees.Statement.{statement}
 use Rattle.onlinecheck.proofs.dirty.agrees.Tie as tie
 
@@ -19,14 +19,8 @@ element-copy-out-has c = search needs
 
 returns : tie.Need-returns
 returns c =
-    let a = c .before .before .before .args in
-    marked-dirty (now (a .tables)) (a .frames) (a .pages) (a .p) (now (a .marks)) (c .before .before .before .pre .1) (c .if1 .taken)
-
-returns-2 : tie.Need-returns-2
-returns-2 c =
-    let a = c .before .before .before .args in
-    marked-clean (now (a .tables)) (a .frames) (a .pages) (a .p) (now (a .marks)) (c .before .before .before .pre .1) (c .if1 .left)
+    let a = c .before .before .args in
+    marked-read (now (a .tables)) (a .frames) (a .pages) (a .p) (now (a .marks)) (c .before .before .pre .1)
 
 pub agrees-spec : {M : Type 1} → statement M
-agrees-spec =
-    tie.close (tie.spec add-e add-e-2 shared-slice-read-e element-copy-out-has returns returns-2)
+agrees-spec = tie.close (tie.spec add-e add-e-2 shared-slice-read-e element-copy-out-has returns)

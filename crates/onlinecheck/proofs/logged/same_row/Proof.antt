@@ -1,81 +1,94 @@
--- `onlinecheck::logged::same_row` meets its contract: the bytes still to come decide as all of them do.
+-- `onlinecheck::logged::same_row` meets its contract: the words that were read are the same exactly if their bytes are.
 use borrow.Author.Needs.{needs}
-use Prim.Native.Nat.{_+_, _*_, _-_, _≤_}
+use Prim.Native.Nat.{ℕ, _+_, _*_, _<_}
 use native.Mathlib.Omega.{arith}
 use denote.Ref.{now}
-use mathlib.Core.Path.{_≡_}
-use lib.ListN.{take}
-use Rattle.record.specs.Part.{part}
-use Rattle.rules.specs.Sound.{same}
-use Rattle.onlinecheck.proofs.Laws.{same-none, same-fail, same-turn, same-done}
+use lib.ListN.{getD}
+use Rattle.onlinecheck.proofs.Laws.{word-same, same-words}
 use Rattle.onlinecheck.proofs.logged.same_row.Statement.{statement}
 use Rattle.onlinecheck.proofs.logged.same_row.Tie as tie
 
-abbrev Inv-loop : tie.InvT-loop
-Inv-loop t i log j a b k₀ k = (k ≤ 14) × (same (part (a + k) (14 - k) t) (part (b + k) (14 - k) log) ≡ same (take 14 (part (i * 19) 19 t)) (part (j * 14) 14 log))
-
-abbrev μ-loop : tie.MeasureT-loop
-μ-loop t i log j a b k₀ k = 14 - k
-
-mul-a : tie.Need-mul-a Inv-loop μ-loop
+mul-a : tie.Need-mul-a
 mul-a c = search needs
 
-mul-b : tie.Need-mul-b Inv-loop μ-loop
+mul-b : tie.Need-mul-b
 mul-b c = search needs
 
-loop-holds : tie.Need-loop-holds Inv-loop μ-loop
-loop-holds c = let a = c .args in (search needs, same-none (now (a .t)) (now (a .log)) (a .i * 19) (a .j * 14))
+load-requires : tie.Need-load-requires
+load-requires c κs = search needs
 
-add-if1 : tie.Need-add-if1 Inv-loop μ-loop
-add-if1 c = search needs
+load-requires-2 : tie.Need-load-requires-2
+load-requires-2 c κs = search needs
 
-shared-slice-read-if1 : tie.Need-shared-slice-read-if1 Inv-loop μ-loop
-shared-slice-read-if1 c = search needs
+add-load : tie.Need-add-load
+add-load c = search needs
 
-add-if1-2 : tie.Need-add-if1-2 Inv-loop μ-loop
-add-if1-2 c = search needs
+load-requires-3 : tie.Need-load-requires-3
+load-requires-3 c κs = search needs
 
-shared-slice-read-if1-2 : tie.Need-shared-slice-read-if1-2 Inv-loop μ-loop
-shared-slice-read-if1-2 c = search needs
+add-load-2 : tie.Need-add-load-2
+add-load-2 c = search needs
 
-returns : tie.Need-returns Inv-loop μ-loop
+load-requires-4 : tie.Need-load-requires-4
+load-requires-4 c κs = search needs
+
+add-load-3 : tie.Need-add-load-3
+add-load-3 c = search needs
+
+load-requires-5 : tie.Need-load-requires-5
+load-requires-5 c κs = search needs
+
+add-load-4 : tie.Need-add-load-4
+add-load-4 c = search needs
+
+load-requires-6 : tie.Need-load-requires-6
+load-requires-6 c κs = search needs
+
+add-load-5 : tie.Need-add-load-5
+add-load-5 c = search needs
+
+load-requires-7 : tie.Need-load-requires-7
+load-requires-7 c κs = search needs
+
+add-load-6 : tie.Need-add-load-6
+add-load-6 c = search needs
+
+load-requires-8 : tie.Need-load-requires-8
+load-requires-8 c κs = search needs
+
+returns : tie.Need-returns
 returns c =
-    let a = c .before .before .before .before .before .args in
-    same-fail (now (a .t)) (now (a .log)) (a .i * 19) (a .j * 14) (c .before .before .before .before .loop .k) _ (c .before .before .before .loop-test .taken) (omega arith) (omega arith) (c .if1 .taken) (c .before .before .before .before .loop .inv .1)
-
-add-k : tie.Need-add-k Inv-loop μ-loop
-add-k c = search needs
-
-loop-less : tie.Need-loop-less Inv-loop μ-loop
-loop-less c = search needs
-
-loop-again : tie.Need-loop-again Inv-loop μ-loop
-loop-again c =
-    let a = c .before .before .before .before .before .args in (
-      search needs,
-      same-turn (now (a .t)) (now (a .log)) (a .i * 19) (a .j * 14) (c .before .before .before .before .loop .k) _ (c .before .before .before .loop-test .taken) (omega arith) (omega arith) (c .if1 .left) (c .before .before .before .before .loop .inv .1),
-    )
-
-returns-2 : tie.Need-returns-2 Inv-loop μ-loop
-returns-2 c =
-    let a = c .before .before .args in
-    same-done (now (a .t)) (now (a .log)) (a .i * 19) (a .j * 14) (c .before .loop .k) _ (c .loop-test .left) (c .before .loop .inv .1)
+    let s = c .before .before .before .before .before .before .before .before .before .before in
+    let t = now (s .args .t) in
+    let l = now (s .args .log) in
+    let a = s .args .i * 19 in
+    let b = s .args .j * 14 in
+    let f : ((k : ℕ) → getD t k 0 < 256) = λ k. omega (arith, c .before .before .before .before .before .before .before .before .before .shared-slice-known .given k) in
+    let g : ((k : ℕ) → getD l k 0 < 256) = λ k. omega (arith, c .before .before .before .before .before .before .before .before .shared-slice-known2 .given k) in
+    same-words t l a b _ _ _ _ (s .pre .0) (s .pre .1)
+    (word-same t l f g 4 a b _ _ (omega arith) (omega arith) (c .before .before .before .before .before .before .before .load .ensures .0) (c .before .before .before .before .before .before .load2 .ensures .0))
+    (word-same t l f g 4 (a + 4) (b + 4) _ _ (omega arith) (omega arith) (c .before .before .before .before .before .load3 .ensures .0) (c .before .before .before .before .load4 .ensures .0))
+    (word-same t l f g 4 (a + 8) (b + 8) _ _ (omega arith) (omega arith) (c .before .before .before .load5 .ensures .0) (c .before .before .load6 .ensures .0))
+    (word-same t l f g 2 (a + 12) (b + 12) _ _ (omega arith) (omega arith) (c .before .load7 .ensures .0) (c .load8 .ensures .0))
 
 pub same-row-spec : {M : Type 1} → statement M
 same-row-spec =
     tie.close
     (tie.spec
-    Inv-loop
-    μ-loop
     mul-a
     mul-b
-    loop-holds
-    add-if1
-    shared-slice-read-if1
-    add-if1-2
-    shared-slice-read-if1-2
-    returns
-    add-k
-    loop-less
-    loop-again
-    returns-2)
+    load-requires
+    load-requires-2
+    add-load
+    load-requires-3
+    add-load-2
+    load-requires-4
+    add-load-3
+    load-requires-5
+    add-load-4
+    load-requires-6
+    add-load-5
+    load-requires-7
+    add-load-6
+    load-requires-8
+    returns)
