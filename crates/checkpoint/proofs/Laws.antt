@@ -1,16 +1,106 @@
--- The state after the first j compactions: at the start, a turn, at the end; and close after the last.
-use Prim.Native.Nat.{ℕ, suc, _+_, _*_, _≤_, _<_}
+-- The marks of pages with committed rows; and the state after the first j compactions: at the start, a turn, at the end; and close after the last.
+use Prim.Native.Nat.{ℕ, suc, _+_, _*_, _-_, _≤_, _<_}
 use native.Mathlib.Omega.{arith}
 use native.Mathlib.Numerals.{add-one}
-use mathlib.Core.Path.{_≡_, refl, sym, ap, _∙_}
-use mathlib.Core.Bool.{Bool, true, false, cond}
-use mathlib.Core.List.{List}
-use lib.ListN.{length}
+use mathlib.Core.Path.{_≡_, refl, sym, ap, subst, _∙_}
+use mathlib.Core.Bool.{Bool, true, false, cond, _&&_}
+use mathlib.Core.List.{List, [], _∷_}
+use lib.ListN.{length, getD, set, replicate, length-set, length-replicate, getD-replicate}
+use lib.Seq.{set-out}
+use lib.Dec.{eqb}
+use borrow.Author.Tests.{eq-eqb, ne-eqb}
 use Rattle.word.specs.Word.{num}
-use Rattle.rules.specs.Lent.{Lent, pagesOf, lastOf, loggedOf}
+use Rattle.record.specs.Rows.{rowAt, rows, consIf, keep, any}
+use Rattle.record.specs.Record.{pageOf, ownerOf, committed, onPage, committedOn}
+use Rattle.table.proofs.Laws.{rows-start, keep-rows-more, keep-rows-end}
+use Rattle.rules.specs.Lent.{Lent, pagesOf, lastOf, loggedOf, countOf, onlineOf}
 use Rattle.rules.specs.Shape.{Shaped}
-use Rattle.rules.specs.Steps.{due, fromFrame, compacted, compactStep, closed, afterPages, checkpointed}
-use Rattle.compact.proofs.Shapes.{fixed-step, last-step, logged-step, shaped-step}
+use Rattle.rules.specs.Steps.{due, foldable, fromFrame, compacted, compactStep, closed, afterPages, checkpointed}
+use Rattle.onlinecheck.specs.Marks.{markPages}
+use Rattle.onlinecheck.proofs.Marks.{marked-any}
+use Rattle.compact.proofs.Laws.{step-not}
+use Rattle.compact.proofs.Shapes.{fixed-step, last-step, logged-step, shaped-step, foldable-step}
+use Rattle.checkpoint.specs.Noted.{Noted}
+use Rattle.checkpoint.specs.After.{After}
+
+-- an open row leaves the marks as they are, a committed one does not
+pub row-open : (r y z : List ℕ) (o : ℕ) → o ≡ ownerOf r → (o ≡ 0 → ⊥) → z ≡ cond (committed r) y z
+row-open r y z o e h = sym (ap (λ (b : Bool). cond b y z) (ne-eqb (ownerOf r) 0 (λ g. h (e ∙ g))))
+
+row-marks : (r w y z : List ℕ) (o : ℕ) → o ≡ ownerOf r → o ≡ 0 → w ≡ y → w ≡ cond (committed r) y z
+row-marks r w y z o e h q = q ∙ sym (ap (λ (b : Bool). cond b y z) (eq-eqb (ownerOf r) 0 (sym e ∙ h)))
+
+pub row-past : (r z : List ℕ) (o p : ℕ) → o ≡ ownerOf r → o ≡ 0 → p ≡ pageOf r → length z ≤ p → z ≡ cond (committed r) (set z (pageOf r) 1) z
+row-past r z o p e h g k = row-marks r z (set z (pageOf r) 1) z o e h (sym (set-out z p 1 k) ∙ ap (λ (v : ℕ). set z v 1) g)
+
+pub row-marked : (r z : List ℕ) (o p : ℕ) → o ≡ ownerOf r → o ≡ 0 → p ≡ pageOf r → set z p 1 ≡ cond (committed r) (set z (pageOf r) 1) z
+row-marked r z o p e h g = row-marks r (set z p 1) (set z (pageOf r) 1) z o e h (ap (λ (v : ℕ). set z v 1) g)
+
+-- the loop that marks: the rows still to come make of the marks so far what all rows make of the first
+mark-one : (b : Bool) (r : List ℕ) (rs : List (List ℕ)) (x : List ℕ) → markPages (consIf b r rs) x ≡ markPages rs (cond b (set x (pageOf r) 1) x)
+unfolding markPages
+mark-one true r rs x = refl
+mark-one false r rs x = refl
+
+mark-none : (x : List ℕ) → markPages [] x ≡ x
+unfolding markPages
+mark-none x = refl
+
+module _ (m : ℕ) (l : List ℕ) where
+  pub mark-start : (x : List ℕ) → markPages (keep committed (rows 19 (m - 0) l 0)) x ≡ markPages (keep committed (rows 19 m l 0)) x
+  mark-start x = ap (λ (rs : List (List ℕ)). markPages (keep committed rs) x) (rows-start 19 m l)
+
+  pub mark-turn : (i : ℕ) (x x′ z : List ℕ) → i < m → x′ ≡ cond (committed (rowAt 19 l i)) (set x (pageOf (rowAt 19 l i)) 1) x → markPages (keep committed (rows 19 (m - i) l i)) x ≡ z → markPages (keep committed (rows 19 (m - (i + 1)) l (i + 1))) x′ ≡ z
+  mark-turn i x x′ z h q p =
+      let rs : List (List ℕ) = keep committed (rows 19 (m - (i + 1)) l (i + 1)) in
+      ap (λ (y : List ℕ). markPages rs y) q ∙ sym (mark-one (committed (rowAt 19 l i)) (rowAt 19 l i) rs x)
+      ∙ ap (λ (y : List (List ℕ)). markPages y x) (sym (keep-rows-more committed 19 m l i h)) ∙ p
+
+  pub mark-end : (i : ℕ) (x z : List ℕ) → m ≤ i → markPages (keep committed (rows 19 (m - i) l i)) x ≡ z → x ≡ z
+  mark-end i x z h p = sym (mark-none x) ∙ ap (λ (y : List (List ℕ)). markPages y x) (sym (keep-rows-end committed 19 m l i h)) ∙ p
+
+-- where no committed row is of a page, the page has no committed row
+none-on : (p : ℕ) (l : List (List ℕ)) → any (onPage p) (keep committed l) ≡ false → length (keep (committedOn p) l) ≡ 0
+unfolding any keep
+none-on p [] h = refl
+none-on p (r ∷ l) h = pick (committed r) (onPage p r) refl (none-on p l) h
+  where
+    pick : (c b : Bool) → onPage p r ≡ b → (any (onPage p) (keep committed l) ≡ false → length (keep (committedOn p) l) ≡ 0)
+        → any (onPage p) (consIf c r (keep committed l)) ≡ false → length (consIf (b && c) r (keep (committedOn p) l)) ≡ 0
+    pick true true e f k = absurd (mathlib.Core.Bool.false≢true (sym (rw e at k)))
+    pick true false e f k = f (rw e at k)
+    pick false true e f k = f k
+    pick false false e f k = f k
+
+mark-length : (rs : List (List ℕ)) (a : List ℕ) → length (markPages rs a) ≡ length a
+unfolding markPages
+mark-length [] a = refl
+mark-length (r ∷ rs) a = mark-length rs (set a (pageOf r) 1) ∙ length-set a (pageOf r) 1
+
+-- the marks say which pages have no committed row
+pub noted-all : (a : List ℕ) (s : Lent) (m : ℕ) → m ≡ countOf s → a ≡ markPages (keep committed (rows 19 m (s .lost .online) 0)) (replicate 1024 0) → Noted a s
+noted-all a s m c h = record { long = ap length e ∙ mark-length (keep committed (onlineOf s)) (replicate 1024 0) ∙ z; none = one }
+  where
+    e : a ≡ markPages (keep committed (onlineOf s)) (replicate 1024 0)
+    e = rw c at h
+
+    z : length {A = ℕ} (replicate 1024 0) ≡ 1024
+    z = length-replicate {A = ℕ} 1024 0
+
+    one : (p : ℕ) → p < 1024 → (getD a p 0 ≡ 1 → ⊥) → length (foldable s p) ≡ 0
+    one p l k =
+        let q : p < length {A = ℕ} (replicate 1024 0) = rw z l in
+        let g : eqb (getD a p 0) 1 ≡ any (onPage p) (keep committed (onlineOf s)) =
+        ap (λ (x : List ℕ). eqb (getD x p 0) 1) e ∙ marked-any p (keep committed (onlineOf s)) (replicate 1024 0) q ∙ rw (getD-replicate {A = ℕ} 1024 p 0 0 l) in
+        none-on p (onlineOf s) (sym g ∙ ne-eqb (getD a p 0) 1 k)
+
+-- a page without a mark: the step does nothing
+pub step-unmarked : (minDel maxAge : ℕ) (a : List ℕ) (s : Lent) (p : ℕ) → Shaped s → p < pagesOf s → Noted a s → (getD a p 0 ≡ 1 → ⊥)
+    → (0 ≡ compactStep minDel maxAge s p .reads) × ((0 ≡ compactStep minDel maxAge s p .writes) × (s ≡ compactStep minDel maxAge s p .lent))
+unfolding due
+step-unmarked minDel maxAge a s p w h n k =
+    let z : length (foldable s p) ≡ 0 = n .none p (omega (arith, w .sized .pages)) k in
+    step-not minDel maxAge p s false (rw z) refl
 
 -- a step reads and writes at most a page
 one-most : (b : Bool) → cond b 0 1 ≤ 1
@@ -33,18 +123,7 @@ step-writes minDel maxAge s p = go (due s p minDel maxAge)
     go true = omega arith
     go false = omega arith
 
--- s is what the first j compactions leave of o, and these are their counts
-pub record After (minDel maxAge : ℕ) (o s : Lent) (reads writes j : ℕ) : Type 0 where
-  pub within : j ≤ pagesOf o
-  pub state : s ≡ afterPages minDel maxAge j o .lent
-  pub read : reads ≡ afterPages minDel maxAge j o .reads
-  pub written : writes ≡ afterPages minDel maxAge j o .writes
-  pub reads-most : reads ≤ j
-  pub writes-most : writes ≤ j
-  pub shaped : Shaped s
-  pub fixed : s .durable .fixed ≡ o .durable .fixed
-  pub logged : loggedOf s ≤ lastOf s
-
+-- nothing compacted yet
 pub after-none : (minDel maxAge : ℕ) (o : Lent) → Shaped o → loggedOf o ≤ lastOf o → After minDel maxAge o o 0 0 0
 unfolding afterPages
 after-none minDel maxAge o w h =
@@ -105,30 +184,33 @@ module _ (minDel maxAge : ℕ) (o s : Lent) (reads writes j : ℕ) (a : After mi
         logged = rw l (omega (arith, last-step minDel maxAge s j, logged-step minDel maxAge s j, a .logged));
       }
 
-  -- close after the last
-  pub after-all : (s′ : Lent) (n : ℕ) → n ≡ pagesOf o → n ≤ j → s′ ≡ closed s .lent
-      → (reads ≡ checkpointed minDel maxAge o .reads) × ((writes ≡ checkpointed minDel maxAge o .writes) × (s′ ≡ checkpointed minDel maxAge o .lent))
-  unfolding checkpointed
-  after-all s′ n m h e =
-      let k : j ≡ pagesOf o = omega (arith, a .within) in
-      let f : s ≡ afterPages minDel maxAge (pagesOf o) o .lent = a .state ∙ ap (λ (x : ℕ). afterPages minDel maxAge x o .lent) k in (
-        a .read ∙ ap (λ (x : ℕ). afterPages minDel maxAge x o .reads) k,
-        (
-          a .written ∙ ap (λ (x : ℕ). afterPages minDel maxAge x o .writes) k,
-          e ∙ ap (λ (x : Lent). closed x .lent) f,
-        ),
-      )
+  -- the marks still say so
+  pub noted-more : (m : List ℕ) (s′ : Lent) (n : ℕ) → n ≡ pagesOf o → j < n → Noted m s → s′ ≡ compactStep minDel maxAge s j .lent → Noted m s′
+  noted-more m s′ n k h q e =
+      record {
+        long = q .long;
+        none = λ p l f. rw e (omega (arith, foldable-step minDel maxAge s j (a .shaped) (next-there n k h) p, q .none p l f));
+      }
+
+  -- the last page had its turn
+  pub after-last : (n : ℕ) → n ≡ pagesOf o → n ≤ j → After minDel maxAge o s reads writes (pagesOf o)
+  after-last n m h = let k : j ≡ pagesOf o = omega (arith, a .within) in subst (λ (x : ℕ). After minDel maxAge o s reads writes x) k a
 
   -- the areas are as long as at the start
   pub same-lengths : Shaped o
-      → (length (s .durable .marks) ≡ length (o .durable .marks)) × (length (s .durable .log) ≡ length (o .durable .log)) × (length (s .durable .stored) ≡ length (o .durable .stored)) × (length (s .lost .tables) ≡ length (o .lost .tables)) × (length (s .lost .online) ≡ length (o .lost .online))
+      → (length (s .durable .marks) ≡ length (o .durable .marks)) × (length (s .durable .stored) ≡ length (o .durable .stored)) × (length (s .lost .tables) ≡ length (o .lost .tables)) × (length (s .lost .online) ≡ length (o .lost .online))
   same-lengths w =
       let y = w .sized in
       let z = a .shaped .sized in
       let f = a .fixed in (
         z .marks ∙ ap (λ (l : List ℕ). 12 + 8 * num 4 l 4) f ∙ sym (y .marks),
-        z .log ∙ ap (λ (l : List ℕ). 14 * num 4 l 16) f ∙ sym (y .log),
         z .stored ∙ ap (λ (l : List ℕ). num 4 l 0 * num 4 l 4) f ∙ sym (y .stored),
         z .tables ∙ ap (λ (l : List ℕ). 35 + num 4 l 8 + num 4 l 4) f ∙ sym (y .tables),
         z .online ∙ ap (λ (l : List ℕ). 19 * num 4 l 12) f ∙ sym (y .online),
       )
+
+-- close after the last
+pub after-all : (minDel maxAge : ℕ) (o s s′ : Lent) (reads writes : ℕ) → After minDel maxAge o s reads writes (pagesOf o) → s′ ≡ closed s .lent
+    → (reads ≡ checkpointed minDel maxAge o .reads) × ((writes ≡ checkpointed minDel maxAge o .writes) × (s′ ≡ checkpointed minDel maxAge o .lent))
+unfolding checkpointed
+after-all minDel maxAge o s s′ reads writes a e = (a .read, (a .written, e ∙ ap (λ (x : Lent). closed x .lent) (a .state)))

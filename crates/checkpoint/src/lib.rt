@@ -1,11 +1,128 @@
 // Checkpoint: compact for each page, ascending, then close.
+// One walk marks the pages that have a committed online record; the others are passed over, since compact is not due for them.
 ghost use mathlib.Core.Path.{_≡_};
-ghost use Prim.Native.Nat.{_≤_};
-ghost use Rattle.rules.specs.Lent.{lentOf, lastOf, loggedOf};
+ghost use mathlib.Core.Bool.{cond};
+ghost use Prim.Native.Nat.{_+_, _*_, _≤_, _<_};
+ghost use lib.ListN.{length, set};
+ghost use Rattle.record.specs.Rows.{rowAt, rows, keep};
+ghost use Rattle.record.specs.Record.{pageOf, committed};
+ghost use Rattle.rules.specs.Lent.{lentOf, pagesOf, lastOf, loggedOf};
 ghost use Rattle.rules.specs.Shape.{Shaped};
-ghost use Rattle.rules.specs.Steps.{checkpointed};
+ghost use Rattle.rules.specs.Steps.{compactStep, checkpointed};
+ghost use Rattle.onlinecheck.specs.Marks.{markPages};
+ghost use Rattle.checkpoint.specs.Noted.{Noted};
+ghost use Rattle.checkpoint.specs.After.{After};
 use compact::Compacted;
 use number::PageNo;
+
+// A mark at row i's page, if the row is committed. A page past the marks has none.
+fn mark_row(seen: &mut [u8], online: &[u8], i: usize)
+    requires { ⌜ i * 19 + 19 ≤ length (now online) ⌝ }
+    ensures { λ r. ⌜ now (seen .exit) ≡ cond (committed (rowAt 19 (now (online .entry)) i)) (set (now (seen .entry)) (pageOf (rowAt 19 (now (online .entry)) i)) 1) (now (seen .entry)) ⌝ }
+{
+    if record::owner_of(online, i) != 0 {
+        return;
+    }
+    let p = record::page_of(online, 19, i).0;
+    if seen.len() <= p {
+        return;
+    }
+    seen[p] = 1;
+}
+
+// A mark at the page of each committed row.
+fn mark_committed(seen: &mut [u8], online: &[u8], m: usize)
+    requires { ⌜ m * 19 ≤ length (now online) ⌝ }
+    ensures { λ r. ⌜ now (seen .exit) ≡ markPages (keep committed (rows 19 m (now (online .entry)) 0)) (now (seen .entry)) ⌝ }
+{
+    let mut i = 0;
+    while i < m {
+        mark_row(seen, online, i);
+        i += 1;
+    }
+}
+
+// Compact as a step, where the page is marked; the step of another page does nothing.
+fn marked_step(
+    fixed: &[u8],
+    marks: &mut [u8],
+    log: &[u8],
+    stored: &mut [u8],
+    tables: &mut [u8],
+    online: &mut [u8],
+    pool: &[u8],
+    p: PageNo,
+    min_del: u64,
+    max_age: u64,
+    seen: &[u8],
+) -> Compacted
+    requires { ⌜ Shaped (lentOf (now fixed) (now marks) (now log) (now stored) (now tables) (now online) (now pool)) × (p .0 < pagesOf (lentOf (now fixed) (now marks) (now log) (now stored) (now tables) (now online) (now pool))) × Noted (now seen) (lentOf (now fixed) (now marks) (now log) (now stored) (now tables) (now online) (now pool)) ⌝ }
+    ensures reads { λ r. ⌜ r .reads ≡ compactStep «min_del» «max_age» (lentOf (now (fixed .entry)) (now (marks .entry)) (now (log .entry)) (now (stored .entry)) (now (tables .entry)) (now (online .entry)) (now (pool .entry))) (p .0) .reads ⌝ }
+    ensures writes { λ r. ⌜ r .writes ≡ compactStep «min_del» «max_age» (lentOf (now (fixed .entry)) (now (marks .entry)) (now (log .entry)) (now (stored .entry)) (now (tables .entry)) (now (online .entry)) (now (pool .entry))) (p .0) .writes ⌝ }
+    ensures lent { λ r. ⌜ lentOf (now (fixed .entry)) (now (marks .exit)) (now (log .entry)) (now (stored .exit)) (now (tables .exit)) (now (online .exit)) (now (pool .entry)) ≡ compactStep «min_del» «max_age» (lentOf (now (fixed .entry)) (now (marks .entry)) (now (log .entry)) (now (stored .entry)) (now (tables .entry)) (now (online .entry)) (now (pool .entry))) (p .0) .lent ⌝ }
+{
+    let at = p.0;
+    if seen[at] != 1 {
+        return Compacted {
+            reads: 0,
+            writes: 0,
+        };
+    }
+    compact::compact_step(
+        fixed,
+        marks,
+        log,
+        stored,
+        tables,
+        online,
+        pool,
+        p,
+        min_del,
+        max_age,
+    )
+}
+
+// Compact as a step for each page, ascending.
+fn compact_all(
+    fixed: &[u8],
+    marks: &mut [u8],
+    log: &[u8],
+    stored: &mut [u8],
+    tables: &mut [u8],
+    online: &mut [u8],
+    pool: &[u8],
+    min_del: u64,
+    max_age: u64,
+    seen: &[u8],
+) -> Compacted
+    requires { ⌜ Shaped (lentOf (now fixed) (now marks) (now log) (now stored) (now tables) (now online) (now pool)) × (loggedOf (lentOf (now fixed) (now marks) (now log) (now stored) (now tables) (now online) (now pool)) ≤ lastOf (lentOf (now fixed) (now marks) (now log) (now stored) (now tables) (now online) (now pool))) × Noted (now seen) (lentOf (now fixed) (now marks) (now log) (now stored) (now tables) (now online) (now pool)) ⌝ }
+    ensures { λ r. ⌜ After «min_del» «max_age» (lentOf (now (fixed .entry)) (now (marks .entry)) (now (log .entry)) (now (stored .entry)) (now (tables .entry)) (now (online .entry)) (now (pool .entry))) (lentOf (now (fixed .entry)) (now (marks .exit)) (now (log .entry)) (now (stored .exit)) (now (tables .exit)) (now (online .exit)) (now (pool .entry))) (r .reads) (r .writes) (pagesOf (lentOf (now (fixed .entry)) (now (marks .entry)) (now (log .entry)) (now (stored .entry)) (now (tables .entry)) (now (online .entry)) (now (pool .entry)))) ⌝ }
+{
+    let pages = word::load(fixed, 4, 4) as usize;
+    let mut reads: u32 = 0;
+    let mut writes: u32 = 0;
+    let mut j = 0;
+    // the tables are those after the first j compactions
+    while j < pages {
+        let d = marked_step(
+            fixed,
+            marks,
+            log,
+            stored,
+            tables,
+            online,
+            pool,
+            PageNo(j),
+            min_del,
+            max_age,
+            seen,
+        );
+        reads += d.reads;
+        writes += d.writes;
+        j += 1;
+    }
+    Compacted { reads, writes }
+}
 
 // Checkpoint, on all the lent areas.
 pub fn checkpoint(
@@ -24,28 +141,21 @@ pub fn checkpoint(
     ensures writes { λ r. ⌜ r .writes ≡ checkpointed «min_del» «max_age» (lentOf (now (fixed .entry)) (now (marks .entry)) (now (log .entry)) (now (stored .entry)) (now (tables .entry)) (now (online .entry)) (now (pool .entry))) .writes ⌝ }
     ensures lent { λ r. ⌜ lentOf (now (fixed .entry)) (now (marks .exit)) (now (log .exit)) (now (stored .exit)) (now (tables .exit)) (now (online .exit)) (now (pool .entry)) ≡ checkpointed «min_del» «max_age» (lentOf (now (fixed .entry)) (now (marks .entry)) (now (log .entry)) (now (stored .entry)) (now (tables .entry)) (now (online .entry)) (now (pool .entry))) .lent ⌝ }
 {
-    let pages = word::load(fixed, 4, 4) as usize;
-    let mut reads: u32 = 0;
-    let mut writes: u32 = 0;
-    let mut j = 0;
-    // the tables are those after the first j compactions
-    while j < pages {
-        let d = compact::compact_step(
-            fixed,
-            marks,
-            log,
-            stored,
-            tables,
-            online,
-            pool,
-            PageNo(j),
-            min_del,
-            max_age,
-        );
-        reads += d.reads;
-        writes += d.writes;
-        j += 1;
-    }
+    let m = word::load(tables, 0, 2) as usize;
+    let mut seen = [0u8; 1024];
+    mark_committed(&mut seen, online, m);
+    let d = compact_all(
+        fixed,
+        marks,
+        log,
+        stored,
+        tables,
+        online,
+        pool,
+        min_del,
+        max_age,
+        &seen,
+    );
     closing::close(fixed, marks, log, stored, tables, online, pool);
-    Compacted { reads, writes }
+    d
 }

@@ -3,7 +3,7 @@ use Prim.Native.Nat.{ℕ, _+_, _*_, _/_, _≤_, _<_}
 use native.Mathlib.Omega.{arith}
 use mathlib.Core.Path.{_≡_, refl, ap, _∙_}
 use mathlib.Core.Bool.{Bool, true, false, cond, not}
-use mathlib.Core.List.{List}
+use mathlib.Core.List.{List, [], _∷_}
 use lib.ListN.{length, getD, take, set, length-set}
 use lib.Dec.{eqb, leb, ltb}
 use borrow.Author.Tests.{le-leb}
@@ -11,11 +11,11 @@ use Rattle.word.specs.Word.{num}
 use Rattle.word.proofs.Laws.{length-put}
 use Rattle.word.proofs.Puts.{num-put-below}
 use Rattle.record.specs.Part.{part}
-use Rattle.record.specs.Rows.{keep}
-use Rattle.record.specs.Record.{onPage, gone, greatest, applied}
+use Rattle.record.specs.Rows.{rows, table, consIf, keep}
+use Rattle.record.specs.Record.{onPage, committedOn, gone, greatest, applied}
 use Rattle.record.proofs.Parts.{length-part, length-with, part-set}
 use Rattle.apply.proofs.Laws.{length-applied}
-use Rattle.table.proofs.Laws.{keep-length, length-rows, length-kept-table}
+use Rattle.table.proofs.Laws.{keep-length, length-rows, wide-all, wide-keep, rows-table, length-kept-table}
 use Rattle.order.specs.Order.{without}
 use Rattle.order.proofs.Laws.{length-without}
 use Rattle.rules.specs.Lent.{Lent, sizeOf, pagesOf, framesOf, roomOf, lastOf, loggedOf, countOf, usedOf, stampAt, orderOf, entryAt, entryOf, entriesOf, onlineOf, inFrame, frameOf, cleanIn, pageIn, withPage, withOrder, withCount}
@@ -172,6 +172,31 @@ module _ (s : Lent) (p : ℕ) (w : Shaped s) (h : p < pagesOf s) where
         order = ap (λ (l : List ℕ). every (λ (f : ℕ). ltb f (framesOf s)) l) written-order ∙ order-names;
       }
 
+  -- the rows left are those that are not folded in
+  pub online-compact : onlineOf (compacted s p .lent) ≡ unfolded s p
+  unfolding compacted written entered
+  online-compact =
+      ap (λ (n : ℕ). rows 19 n (table 19 (roomOf s) (unfolded s p)) 0) written-count
+      ∙ rows-table (roomOf s) (wide-keep (λ (r : List ℕ). not (gone false 0 p r)) (wide-all 19 (countOf s) (s .lost .online) (omega (arith, w .count, w .sized .online))))
+
+-- of fewer rows no more pass a test
+more-kept : (t : Bool) (r : List ℕ) (k l : List (List ℕ)) → length k ≤ length l → length (consIf t r k) ≤ length (consIf t r l)
+more-kept true r k l h = omega arith
+more-kept false r k l h = h
+
+kept-more : (t : Bool) (r : List ℕ) (l : List (List ℕ)) → length l ≤ length (consIf t r l)
+kept-more true r l = omega arith
+kept-more false r l = omega arith
+
+kept-fewer : (b d : List ℕ → Bool) (l : List (List ℕ)) → length (keep d (keep b l)) ≤ length (keep d l)
+unfolding keep
+kept-fewer b d [] = omega arith
+kept-fewer b d (r ∷ l) = pick (b r) (kept-fewer b d l)
+  where
+    pick : (t : Bool) → length (keep d (keep b l)) ≤ length (keep d l) → length (keep d (consIf t r (keep b l))) ≤ length (consIf (d r) r (keep d l))
+    pick true h = more-kept (d r) r (keep d (keep b l)) (keep d l) h
+    pick false h = omega (arith, kept-more (d r) r (keep d l))
+
 -- and so as a step
 module _ (minDel maxAge : ℕ) (s : Lent) (p : ℕ) where
   pub fixed-step : compactStep minDel maxAge s p .lent .durable .fixed ≡ s .durable .fixed
@@ -205,3 +230,12 @@ module _ (minDel maxAge : ℕ) (s : Lent) (p : ℕ) where
       go : (b : Bool) → Shaped (cond b (compacted s p) (record { lent = s; reads = 0; writes = 0; logs = 0 }) .lent)
       go true = shaped-compact s p w h
       go false = w
+
+  -- no page has more committed rows after a step
+  pub foldable-step : Shaped s → p < pagesOf s → (q : ℕ) → length (foldable (compactStep minDel maxAge s p .lent) q) ≤ length (foldable s q)
+  unfolding compactStep
+  foldable-step w h q = go (due s p minDel maxAge)
+    where
+      go : (b : Bool) → length (foldable (cond b (compacted s p) (record { lent = s; reads = 0; writes = 0; logs = 0 }) .lent) q) ≤ length (foldable s q)
+      go true = rw (online-compact s p w h) (kept-fewer (λ (r : List ℕ). not (gone false 0 p r)) (committedOn q) (onlineOf s))
+      go false = omega arith
