@@ -1,19 +1,18 @@
 -- Begin and evict keep what is right: begin changes one live byte, evict one entry and the use order.
-use Prim.Native.Nat.{ℕ, _-_, _%_, _≤_, _<_}
+use Prim.Native.Nat.{ℕ, _%_, _≤_, _<_}
 use native.Mathlib.Omega.{arith}
 use mathlib.Core.Path.{_≡_, refl, sym, ap, _∙_, subst}
-use mathlib.Core.Bool.{Bool, true, false, cond, _||_, false≢true}
+use mathlib.Core.Bool.{Bool, true, false, cond, false≢true}
 use mathlib.Core.List.{List}
-use lib.ListN.{length, getD, set, length-set}
+use lib.ListN.{getD, set, length-set}
 use lib.Seq.{getD-set-same, getD-set-other}
-use lib.Dec.{eqb, leb}
+use lib.Dec.{eqb}
 use borrow.Author.Tests.{eqb-true, eqb-false}
 use Rattle.record.specs.Rows.{any}
 use Rattle.record.specs.Record.{onPage}
 use Rattle.order.specs.Order.{without}
 use Rattle.rules.specs.Lent.{Lent, pagesOf, orderOf, entryOf, entriesOf, onlineOf, inFrame, frameOf, isDirty, pageIn}
 use Rattle.rules.specs.Steps.{freedOf, begun, evicted}
-use Rattle.rules.proofs.Every.{every-set}
 use Rattle.rules.proofs.Needed.{evicted-dirty}
 use Rattle.seats.proofs.Seated.{Seated}
 use Rattle.seats.proofs.Places.{left-none, seated-leave}
@@ -23,35 +22,9 @@ use Rattle.history.specs.Past.{Past, begins}
 use Rattle.history.proofs.Right.{Ground, LostRight, Right}
 use Rattle.history.proofs.Settle.{settle}
 use Rattle.history.proofs.Pasts.{past-begin}
+use Rattle.history.proofs.Lives.{lost-begun}
 
 module _ {g : Ground} {done opened : List (List ℕ)} {live : ℕ → Bool} {frames : ℕ} {marks stored pool order lives entries : List ℕ} {online : List (List ℕ)} (l : LostRight g done opened live frames marks stored pool order lives entries online) where
-  -- the live byte of x is 1 then, and the other live bytes are as they were
-  alive-begun : (x : ℕ) → 1 ≤ x → x ≤ 32 → (y : ℕ) → 1 ≤ y → y ≤ 32 → eqb (getD (set lives (x - 1) 1) (y - 1) 0) 1 ≡ (eqb y x || live y)
-  alive-begun x m n y a b = go (eqb y x) refl
-    where
-      go : (t : Bool) → eqb y x ≡ t → eqb (getD (set lives (x - 1) 1) (y - 1) 0) 1 ≡ (t || live y)
-      go true e =
-          let i : y - 1 ≡ x - 1 = ap (λ (z : ℕ). z - 1) (eqb-true y x e) in
-          let k : x - 1 < length lives = omega (arith, l .lives-length) in
-          ap (λ (z : ℕ). eqb (getD (set lives (x - 1) 1) z 0) 1) i ∙ ap (λ (z : ℕ). eqb z 1) (getD-set-same lives (x - 1) 1 0 k)
-      go false e =
-          let d : y - 1 ≡ x - 1 → ⊥ = λ q. eqb-false y x e (omega arith) in
-          ap (λ (z : ℕ). eqb z 1) (getD-set-other lives (x - 1) (y - 1) 1 0 d) ∙ l .alive y a b
-
-  -- begin: "makes the number live"
-  lost-begin : (x : ℕ) → 1 ≤ x → x ≤ 32 → LostRight g done opened (λ (y : ℕ). eqb y x || live y) frames marks stored pool order (set lives (x - 1) 1) entries online
-  lost-begin x m n =
-      record {
-        seated = l .seated;
-        entries-length = l .entries-length;
-        lives-length = length-set lives (x - 1) 1 ∙ l .lives-length;
-        lives-bits = every-set (λ (b : ℕ). leb b 1) lives (x - 1) 1 (l .lives-bits) refl;
-        alive = λ y a b. alive-begun x m n y a b;
-        dirty = l .dirty;
-        online-is = l .online-is;
-        frame = l .frame;
-      }
-
   -- evict of page p, whose entry is e: "clean becomes absent, dirty becomes evicted", and the other entries are as they were
   module _ (p e : ℕ) (m : p < g .pages) (k : e ≡ getD entries p 0) (d : isDirty (getD (set entries p (e % 2)) p 0) ≡ isDirty e) where
     here : getD (set entries p (e % 2)) p 0 ≡ e % 2
@@ -96,7 +69,7 @@ module _ {g : Ground} {done opened : List (List ℕ)} {live : ℕ → Bool} {fra
 -- begin keeps what is right
 pub keeps-begin : {g : Ground} {done : List (List ℕ)} {h : Past} {s : Lent} (x : ℕ) → 1 ≤ x → x ≤ 32 → Right g done h s → Right g done (begins h x) (begun s x .lent)
 unfolding begun begins
-keeps-begin {g} {done} {h} {s} x m n r = settle (reads-begun s x (r .whole) m n) (past-begin (r .past) x) (r .durable) (lost-begin (r .lost) x m n)
+keeps-begin {g} {done} {h} {s} x m n r = settle (reads-begun s x (r .whole) m n) (past-begin (r .past) x) (r .durable) (lost-begun (r .lost) x m n)
 
 -- evict keeps what is right: "Nothing is written", so a page that stays in its frame holds what it held
 pub keeps-evict : {g : Ground} {done : List (List ℕ)} {h : Past} {s : Lent} (p : ℕ) → p < pagesOf s → inFrame (entryOf s p) ≡ true → Right g done h s → Right g done h (evicted s p .lent)

@@ -14,12 +14,10 @@ use Rattle.record.specs.Record.{pageOf, offsetOf, lengthOf, ownerOf, committed,
 use Rattle.apply.proofs.Laws.{length-apply}
 use Rattle.order.specs.Order.{touched, frameFor}
 use Rattle.table.proofs.Laws.{length-rowOf}
-use Rattle.rules.specs.Lent.{Lent, sizeOf, pagesOf, framesOf, roomOf, spanOf, countOf, orderOf, entryOf, entriesOf, onlineOf, inFrame, frameOf, isDirty, dirtyIn, pageIn, withPage}
+use Rattle.rules.specs.Lent.{Lent, sizeOf, pagesOf, framesOf, roomOf, countOf, orderOf, entryOf, entriesOf, onlineOf, inFrame, frameOf, isDirty, dirtyIn, pageIn, withPage}
 use Rattle.rules.specs.Steps.{placed, placeOf, rebuilt, fetchedEntries, fetchedPool, readStep, updated}
 use Rattle.rules.specs.Calls.{clashes, held}
 use Rattle.rules.specs.Sound.{every, apart}
-use Rattle.durable.specs.Ranges.{Ranged}
-use Rattle.durable.proofs.Laws.{ranged}
 use Rattle.onlinecheck.proofs.Rows.{every-imp}
 use Rattle.redo.proofs.View.{applied-append, keep-append}
 use Rattle.redo.proofs.Views.{keep-none}
@@ -33,6 +31,7 @@ use Rattle.readback.proofs.Pages.{page-length, page-same, page-other}
 use Rattle.readback.proofs.Lost.{entry-whole, length-rebuilt, length-fetched-pool, reads-read, reads-updated}
 use Rattle.history.specs.Past.{Past, updates}
 use Rattle.history.proofs.Right.{Ground, LostRight, Right, aboveStamp, rowsOf, openOf, openRow}
+use Rattle.history.proofs.Facts.{ranges, stored-long}
 use Rattle.history.proofs.Settle.{settle}
 use Rattle.history.proofs.Pasts.{open-update, past-update}
 
@@ -97,10 +96,6 @@ module _ {g : Ground} {done opened : List (List ℕ)} {live : ℕ → Bool} {fra
           frame = placed-holds;
         }
 
--- the ranges of what format fixed
-ranges : {g : Ground} {done : List (List ℕ)} {h : Past} {s : Lent} → Right g done h s → Ranged (sizeOf s) (pagesOf s) (framesOf s) (roomOf s) (spanOf s)
-ranges {s = s} r = ranged (sizeOf s) (pagesOf s) (framesOf s) (roomOf s) (spanOf s) (r .durable .range)
-
 -- fetch of page p
 module _ {g : Ground} {done : List (List ℕ)} {h : Past} {s : Lent} (p : ℕ) (m : p < pagesOf s) (r : Right g done h s) where
   there : p < g .pages
@@ -121,9 +116,7 @@ module _ {g : Ground} {done : List (List ℕ)} {h : Past} {s : Lent} (p : ℕ) (
       ∙ rebuilt-page (r .lost) p there
 
   rebuilt-length : length (rebuilt s p) ≡ sizeOf s
-  rebuilt-length =
-      let e : length (s .durable .stored) ≡ sizeOf s * pagesOf s = r .durable .stored ∙ ap (λ (n : ℕ). n * g .pages) (sym sized) ∙ ap (λ (n : ℕ). sizeOf s * n) (sym (r .durable .pages)) in
-      length-rebuilt s p e m
+  rebuilt-length = length-rebuilt s p (stored-long (r .durable)) m
 
   -- the frame that the page is in once it was fetched
   below : placeOf s p < framesOf s
@@ -131,7 +124,7 @@ module _ {g : Ground} {done : List (List ℕ)} {h : Past} {s : Lent} (p : ℕ) (
     where
       go : (b : Bool) → inFrame (entryOf s p) ≡ b → cond b (frameOf (entryOf s p)) (frameFor (framesOf s) (orderOf s)) < framesOf s
       go true i = rw entry (seated-below (r .lost .seated) p (among (r .lost) p there) (ap (λ (e : ℕ). inFrame e) (sym entry) ∙ i))
-      go false i = seated-frame (r .lost .seated) (ranges r .frames-least)
+      go false i = seated-frame (r .lost .seated) (ranges (r .durable) .frames-least)
 
   -- the lost part with page p in frame f, the latest used
   abbrev Fetched : ℕ → List ℕ → List ℕ → Type 0
@@ -279,7 +272,7 @@ update-right : {g : Ground} {done : List (List ℕ)} {h : Past} {s : Lent} (r : 
     → every (λ (a : List ℕ). apart a r) (openOf h) ≡ true → countOf s < roomOf s → Right g done h s → Right g done (updates h r) (updated s r .lent)
 unfolding updated updates
 update-right {g} {done} {h} {s} r m long c o a room w =
-    settle (reads-updated s r (w .whole) long (omega arith) (ranges w .room-most) (order-fits p m w) (below p m w) (rebuilt-length p m w))
+    settle (reads-updated s r (w .whole) long (omega arith) (ranges (w .durable) .room-most) (order-fits p m w) (below p m w) (rebuilt-length p m w))
     (past-update (w .past) r long c o a) (w .durable)
     (subst (λ (k : List (List ℕ)). After k (sizeOf s)) (sym (open-update h r c)) (subst (λ (n : ℕ). After (openOf h ++ (r ∷ [])) n) (sym size) after))
   where
@@ -340,10 +333,10 @@ module _ {g : Ground} {done : List (List ℕ)} {h : Past} {s : Lent} (x p offset
   row = rowOf p offset w kind v x
 
   its-page : pageOf row ≡ p
-  its-page = row-page p offset w kind v x (omega (arith, ranges t .pages-most))
+  its-page = row-page p offset w kind v x (omega (arith, ranges (t .durable) .pages-most))
 
   its-offset : offsetOf row ≡ offset
-  its-offset = row-offset p offset w kind v x (omega (arith, ranges t .size-most))
+  its-offset = row-offset p offset w kind v x (omega (arith, ranges (t .durable) .size-most))
 
   its-length : lengthOf row ≡ w
   its-length = row-length p offset w kind v x

@@ -16,8 +16,9 @@ use Rattle.rules.specs.Sound.{every, zeros}
 use Rattle.redo.proofs.Views.{keep-same}
 use Rattle.readback.proofs.Marks.{restamped-length, restamped-front, restamped-same, restamped-other, restamped-dirty}
 use Rattle.readback.proofs.Pages.{pages-length, page-same, page-other}
-use Rattle.history.proofs.Tested.{every-two}
+use Rattle.redo.proofs.Reader.{every-both}
 use Rattle.history.proofs.Right.{Ground, DurableRight, rowsOf, aboveStamp, only}
+use Rattle.history.proofs.Facts.{marks-long}
 
 through : (a b c : Bool) → (not a || b) ≡ true → (not b || c) ≡ true → (not a || c) ≡ true
 through true true c h k = k
@@ -41,24 +42,21 @@ module _ {g : Ground} {done : List (List ℕ)} {d : Durable} (r : DurableRight g
   k′ : p < pagesOf (only d)
   k′ = omega (arith, r .pages)
 
-  marks-long : length (d .marks) ≡ 12 + 8 * pagesOf (only d)
-  marks-long = r .marks ∙ ap (λ (m : ℕ). 12 + 8 * m) (sym (r .pages))
-
   small : n ≤ 4294967295
   small = omega (arith, r .bound)
 
   front : (i : ℕ) → i + 4 ≤ 12 → num 4 marks i ≡ num 4 (d .marks) i
-  front = restamped-front (pagesOf (only d)) (d .marks) marks-long p n k′ small
+  front = restamped-front (pagesOf (only d)) (d .marks) (marks-long r) p n k′ small
 
   -- the page's stamp, and the others
   pub stamp-here : num 4 (restamped d p n page .marks) (stampAt p) ≡ n
-  stamp-here = restamped-same (pagesOf (only d)) (d .marks) marks-long p n k′ small
+  stamp-here = restamped-same (pagesOf (only d)) (d .marks) (marks-long r) p n k′ small
 
   pub stamp-other : (q : ℕ) → (q ≡ p → ⊥) → num 4 (restamped d p n page .marks) (stampAt q) ≡ num 4 (d .marks) (stampAt q)
-  stamp-other = restamped-other (pagesOf (only d)) (d .marks) marks-long p n k′ small
+  stamp-other = restamped-other (pagesOf (only d)) (d .marks) (marks-long r) p n k′ small
 
   dirty-now : (q : ℕ) → dirtyOf (only now) q ≡ dirtyOf (only d) q
-  dirty-now = restamped-dirty (pagesOf (only d)) (d .marks) marks-long p n k′ small
+  dirty-now = restamped-dirty (pagesOf (only d)) (d .marks) (marks-long r) p n k′ small
 
   last-now : lastOf (only now) ≡ lastOf (only d)
   last-now = front 0 (omega arith)
@@ -106,7 +104,7 @@ module _ {g : Ground} {done : List (List ℕ)} {d : Durable} (r : DurableRight g
     needed-now : every (λ (x : List ℕ). not (aboveStamp marks x) || leb (firstOf (only now)) (numberOf x)) (rowsOf g done) ≡ true
     needed-now =
         ap (λ (m : ℕ). every (λ (x : List ℕ). not (aboveStamp marks x) || leb m (numberOf x)) (rowsOf g done)) first-now
-        ∙ every-two (λ (x : List ℕ). not (aboveStamp marks x) || aboveStamp (d .marks) x) (λ (x : List ℕ). not (aboveStamp (d .marks) x) || leb (firstOf (only d)) (numberOf x)) (λ (x : List ℕ). not (aboveStamp marks x) || leb (firstOf (only d)) (numberOf x))
+        ∙ every-both (λ (x : List ℕ). not (aboveStamp marks x) || aboveStamp (d .marks) x) (λ (x : List ℕ). not (aboveStamp (d .marks) x) || leb (firstOf (only d)) (numberOf x)) (λ (x : List ℕ). not (aboveStamp marks x) || leb (firstOf (only d)) (numberOf x))
         (λ x. through (aboveStamp marks x) (aboveStamp (d .marks) x) (leb (firstOf (only d)) (numberOf x))) (rowsOf g done) fewer (r .needed)
 
     abbrev enters : Durable → List ℕ → Bool
@@ -119,7 +117,7 @@ module _ {g : Ground} {done : List (List ℕ)} {d : Durable} (r : DurableRight g
 
     entered-now : every (λ (x : List ℕ). not (aboveStamp marks x) || enters now x) (rowsOf g done) ≡ true
     entered-now =
-        every-two (λ (x : List ℕ). not (aboveStamp marks x) || aboveStamp (d .marks) x) (λ (x : List ℕ). not (aboveStamp (d .marks) x) || enters d x) (λ (x : List ℕ). not (aboveStamp marks x) || enters now x)
+        every-both (λ (x : List ℕ). not (aboveStamp marks x) || aboveStamp (d .marks) x) (λ (x : List ℕ). not (aboveStamp (d .marks) x) || enters d x) (λ (x : List ℕ). not (aboveStamp marks x) || enters now x)
         (λ x a b. ap (λ (t : Bool). not (aboveStamp marks x) || t) (sym (enters-now x)) ∙ through (aboveStamp marks x) (aboveStamp (d .marks) x) (enters d x) a b) (rowsOf g done) fewer (r .entered)
 
     -- the stamps of rows of another page
@@ -146,7 +144,7 @@ module _ {g : Ground} {done : List (List ℕ)} {d : Durable} (r : DurableRight g
           range = r .range;
           size = r .size;
           pages = r .pages;
-          marks = restamped-length (pagesOf (only d)) (d .marks) marks-long p n k′ small ∙ r .marks;
+          marks = restamped-length (pagesOf (only d)) (d .marks) (marks-long r) p n k′ small ∙ r .marks;
           log = r .log;
           stored = pages-length (sizeOf (only d)) (g .pages) (d .stored) area p k page full ∙ r .stored;
           last = last-now ∙ r .last;

@@ -124,10 +124,7 @@ length-fetched-pool s p a h q =
     either-length (inFrame (entryOf s p)) (sizeOf s * framesOf s) (s .lost .pool) (withPage (sizeOf s) (placeOf s p) (s .lost .pool) (rebuilt s p)) (a .pool)
     (page-length (placeOf s p) (framesOf s) (sizeOf s) (s .lost .pool) (rebuilt s p) h (a .pool) q)
 
--- what is read of a store whose lost areas are whole: the count, an entry, a live byte
-pub count-whole : (s : Lent) → Whole s → countOf s ≡ length (onlineOf s)
-count-whole s w = w .count
-
+-- what is read of a store whose lost areas are whole: an entry, a live byte
 pub entry-reads : {s : Lent} {order lives entries : List ℕ} {online : List (List ℕ)} → Reads s order lives entries online → (p : ℕ) → p < pagesOf s → entryOf s p ≡ getD entries p 0
 entry-reads w p h = entry-says (tables-say w) p h
 
