@@ -21,11 +21,11 @@ use Rattle.readback.proofs.Seen.{livesOf}
 use Rattle.readback.proofs.Lost.{entry-whole, reads-aborted}
 use Rattle.history.specs.Past.{Past, aborts}
 use Rattle.history.proofs.Right.{Ground, LostRight, Right, rowsOf, openOf, aboveStamp}
+use Rattle.history.proofs.Settle.{settle}
 use Rattle.history.proofs.Tested.{every-keep}
 use Rattle.history.proofs.Facts.{done-paged, open-every, ranges, online-each}
-use Rattle.history.proofs.Lives.{lost-ended}
-use Rattle.history.proofs.Settle.{settle}
 use Rattle.history.proofs.Pasts.{past-abort, open-abort}
+use Rattle.history.proofs.Carried.{lost-ended}
 
 -- the page of each online record is one of the store's
 online-below : {g : Ground} {done : List (List ℕ)} {h : Past} {s : Lent} → Right g done h s → every (λ (r : List ℕ). ltb (pageOf r) (pagesOf s)) (onlineOf s) ≡ true

@@ -21,34 +21,19 @@ use Rattle.onlinecheck.specs.Online.{pageBelow}
 use Rattle.onlinecheck.proofs.Rows.{and-both, every-imp}
 use Rattle.redo.proofs.Loose.{_≅_}
 use Rattle.redo.proofs.Views.{keep-same-where}
+use Rattle.redo.proofs.Reader.{every-both}
 use Rattle.readback.proofs.Seen.{livesOf}
 use Rattle.readback.proofs.Marks.{marks-close, last-close, closed-close, logged-close, stamp-close, dirty-close}
 use Rattle.readback.proofs.Log.{log-close, log-zero-close, log-length-close}
 use Rattle.readback.proofs.Lost.{reads-closed}
 use Rattle.history.specs.Past.{Past}
-use Rattle.history.proofs.Tested.{and-in}
-use Rattle.history.proofs.Least.{kept-numbered, kept-from, least-within, lacked-from, lacked-dirty}
-use Rattle.redo.proofs.Reader.{every-both}
 use Rattle.history.proofs.Right.{Ground, DurableRight, LostRight, Right, rowsOf, openOf, aboveStamp}
+use Rattle.history.proofs.Settle.{settle}
+use Rattle.history.proofs.Tested.{and-in}
 use Rattle.history.proofs.Facts.{done-paged, done-committed, open-unset, open-every, marks-long, logged-last, online-each}
 use Rattle.history.proofs.Known.{rows-last}
-use Rattle.history.proofs.Settle.{settle}
-
--- the lost part is right by the stamps alone of the marks
-same-stamps : {g : Ground} {done opened : List (List ℕ)} {live : ℕ → Bool} {frames : ℕ} {marks stored pool order lives entries : List ℕ} {online : List (List ℕ)} (marks′ : List ℕ)
-    → keep (aboveStamp marks′) (rowsOf g done) ≡ keep (aboveStamp marks) (rowsOf g done)
-    → LostRight g done opened live frames marks stored pool order lives entries online → LostRight g done opened live frames marks′ stored pool order lives entries online
-same-stamps {opened = opened} {online = online} marks′ e l =
-    record {
-      seated = l .seated;
-      entries-length = l .entries-length;
-      lives-length = l .lives-length;
-      lives-bits = l .lives-bits;
-      alive = l .alive;
-      dirty = l .dirty;
-      online-is = subst (λ (k : List (List ℕ)). online ≅ k ++ opened) (sym e) (l .online-is);
-      frame = l .frame;
-    }
+use Rattle.history.proofs.Carried.{lost-restated}
+use Rattle.history.proofs.Least.{kept-numbered, kept-from, least-within, lacked-from, lacked-dirty}
 
 -- a row above its stamp, said by other words
 imply : (a b c : Bool) → (b ≡ true → c ≡ true) → (not a || b) ≡ true → (not a || c) ≡ true
@@ -230,7 +215,7 @@ module _ (g : Ground) (done : List (List ℕ)) (h : Past) (s : Lent) (r : Right 
 
   lost-after : LostRight g done (openOf h) (h .live) (framesOf after) (after .durable .marks) (after .durable .stored) (after .lost .pool) (orderOf s) (livesOf s) (entriesOf s) (onlineOf s)
   unfolding closed
-  lost-after = same-stamps (after .durable .marks) lacked-same (r .lost)
+  lost-after = lost-restated (r .lost) (subst (λ (k : List (List ℕ)). onlineOf s ≅ k ++ openOf h) (sym lacked-same) (r .lost .online-is)) (λ p. refl) (λ p page. refl)
 
 -- close keeps what is right
 pub keeps-close : {g : Ground} {done : List (List ℕ)} {h : Past} {s : Lent} → Right g done h s → Right g done h (closed s .lent)

@@ -17,19 +17,19 @@ use Rattle.table.proofs.Laws.{Wide, wide-keep, wide-bodies}
 use Rattle.rules.specs.Lent.{Lent, roomOf, spanOf, lastOf, closedOf, loggedOf, firstOf, stampAt, dirtyOf, logOf, onlineOf, pageIn}
 use Rattle.rules.specs.Steps.{owned, committing}
 use Rattle.rules.specs.Sound.{every}
+use Rattle.rules.proofs.Every.{or-right}
 use Rattle.onlinecheck.proofs.Rows.{and-both, every-imp}
 use Rattle.onlinecheck.proofs.Laws.{formed-page}
 use Rattle.redo.proofs.View.{keep-append}
 use Rattle.redo.proofs.Views.{keep-same, keep-all, keep-none}
 use Rattle.redo.proofs.Loose.{numberedFrom, ≅-length}
 use Rattle.redo.proofs.Numbered.{numberedFrom-append, numberedFrom-length, numberedFrom-formed, numberedFrom-from}
+use Rattle.redo.proofs.Reader.{every-both}
 use Rattle.readback.proofs.Marks.{marks-commit, last-commit, closed-commit, logged-commit, stamp-commit, dirty-commit}
 use Rattle.readback.proofs.Log.{log-commit, log-zero-commit, log-length-commit}
 use Rattle.history.specs.Past.{Past}
-use Rattle.history.proofs.Tested.{every-append}
-use Rattle.rules.proofs.Every.{or-right}
-use Rattle.redo.proofs.Reader.{every-both}
 use Rattle.history.proofs.Right.{Ground, Right, DurableRight, rowsOf, openOf, aboveStamp}
+use Rattle.history.proofs.Tested.{every-append}
 use Rattle.history.proofs.Facts.{ranges, marks-long}
 
 -- of records numbered on from L: each number is above L

@@ -1,16 +1,16 @@
 -- Commit keeps what is right: what it numbers is all that was ever committed, and more at its end.
-use Prim.Native.Nat.{ℕ, _+_, _-_, _≤_, _<_}
+use Prim.Native.Nat.{ℕ, _+_, _-_, _≤_}
 use native.Mathlib.Omega.{arith}
 use mathlib.Core.Path.{_≡_, refl, sym, ap, _∙_, subst}
 use mathlib.Core.Bool.{Bool, true, not, _&&_, _||_}
 use mathlib.Core.List.{List, _++_, map, append-assoc}
-use lib.ListN.{length, getD, set}
+use lib.ListN.{length, set}
 use lib.Seq.{drop-append-seam}
 use lib.Dec.{eqb}
 use Rattle.record.specs.Rows.{keep, any}
 use Rattle.record.specs.Record.{committed, bodyOf, onPage, ownedBy, numberRows, wellFormed}
 use Rattle.table.proofs.Laws.{Wide, keep-length}
-use Rattle.rules.specs.Lent.{Lent, framesOf, spanOf, lastOf, loggedOf, orderOf, entriesOf, onlineOf, inFrame, pageIn}
+use Rattle.rules.specs.Lent.{Lent, framesOf, spanOf, lastOf, loggedOf, orderOf, entriesOf, onlineOf}
 use Rattle.rules.specs.Steps.{owned, committing}
 use Rattle.rules.specs.Sound.{every, pairs, apart}
 use Rattle.redo.proofs.View.{SameBodies, none, one, body-page, numberRows-bodies, page-numberRows}
@@ -22,11 +22,11 @@ use Rattle.readback.proofs.Lost.{reads-committing}
 use Rattle.history.specs.Past.{Past, commits}
 use Rattle.history.proofs.Right.{Ground, Right, PastRight, LostRight, rowsOf, openOf, uncommitted, aboveStamp}
 use Rattle.history.proofs.Settle.{settle}
-use Rattle.history.proofs.Pasts.{open-commit, owned-made, past-commit}
 use Rattle.history.proofs.Tested.{every-drop, every-keep}
 use Rattle.history.proofs.Facts.{open-unset}
-use Rattle.history.proofs.Lives.{lost-ended}
+use Rattle.history.proofs.Pasts.{open-commit, owned-made, past-commit}
 use Rattle.history.proofs.Known.{last-read, owned-read}
+use Rattle.history.proofs.Carried.{lost-ended, lost-restated}
 use Rattle.history.proofs.CommitDurable.{above-commit, durable-commit}
 
 -- rows with the same bodies are on the same pages
@@ -57,17 +57,7 @@ module _ {g : Ground} {done opened : List (List ℕ)} {live : ℕ → Bool} {fra
       ∙ ap (λ (m : List (List ℕ)). m ++ others) (sym above))))
 
   lost-commit : LostRight g (done ++ more) others live frames marks′ stored pool order lives entries (numberRows x k online)
-  lost-commit =
-      record {
-        seated = l .seated;
-        entries-length = l .entries-length;
-        lives-length = l .lives-length;
-        lives-bits = l .lives-bits;
-        alive = l .alive;
-        dirty = λ (p : ℕ) (m : p < g .pages). l .dirty p m ∙ sym (bodies-any p (numberRows-bodies x k online));
-        online-is = online-numbered;
-        frame = λ (p : ℕ) (m : p < g .pages) (f : inFrame (getD entries p 0) ≡ true). l .frame p m f ∙ sym (page-numberRows p x k online (pageIn (g .size) p stored));
-      }
+  lost-commit = lost-restated l online-numbered (λ p. sym (bodies-any p (numberRows-bodies x k online))) (λ p page. sym (page-numberRows p x k online page))
 
 -- "Commit numbers the owner's k records L+1 to L+k in table order, appends them to the log, clears the owner, ends the transaction."
 pub keeps-commit : {g : Ground} {done : List (List ℕ)} {h : Past} {s : Lent} (x : ℕ) → 1 ≤ x → x ≤ 32 → loggedOf s + length (owned s x) ≤ spanOf s → lastOf s + length (owned s x) ≤ 4294967295 → Right g done h s → Right g (done ++ map bodyOf (owned s x)) (commits h x) (committing s x .lent)

@@ -4,10 +4,9 @@ use native.Mathlib.Omega.{arith}
 use mathlib.Core.Path.{_≡_, refl, sym, ap, _∙_, subst}
 use mathlib.Core.Bool.{Bool, true, false, cond, not, _&&_, _||_, true≢false}
 use mathlib.Core.List.{List, _++_}
-use lib.ListN.{length, getD, set, length-set}
-use lib.Seq.{getD-set-same, getD-set-other}
+use lib.ListN.{length, getD, set}
 use lib.Dec.{eqb, leb}
-use borrow.Author.Tests.{leb-true, eqb-true, eqb-false}
+use borrow.Author.Tests.{leb-true, eqb-true}
 use Rattle.record.specs.Rows.{keep, any}
 use Rattle.record.specs.Record.{applied, onPage, committedOn, smallest, greatest}
 use Rattle.apply.proofs.Laws.{length-applied}
@@ -26,7 +25,8 @@ use Rattle.history.proofs.Right.{Ground, DurableRight, LostRight, Right
 use Rattle.history.proofs.Settle.{settle}
 use Rattle.history.proofs.Facts.{done-committed, done-rising, open-unset, ranges}
 use Rattle.history.proofs.Known.{rows-last}
-use Rattle.history.proofs.Folding.{Folds, stays, stays-page, stays-none, folds-all, stays-other, stays-any, folded-most, above-now, fewer-above, stays-now, page-now}
+use Rattle.history.proofs.Carried.{lost-entry}
+use Rattle.history.proofs.Folding.{Folds, stays, stays-page, stays-none, folds-all, stays-other, folded-most, above-now, fewer-above, stays-now, page-now}
 use Rattle.history.proofs.Restamped.{restamped, stamp-here, stamp-other, page-here, page-there, restamped-right}
 
 module _ {g : Ground} {done opened : List (List ℕ)} {live : ℕ → Bool} {frames : ℕ} {marks stored pool order lives entries : List ℕ} {online : List (List ℕ)}
@@ -63,45 +63,7 @@ module _ {g : Ground} {done opened : List (List ℕ)} {live : ℕ → Bool} {fra
     with-entry : (e : ℕ) (o : List ℕ) → Seated frames (set entries p e) o → isDirty e ≡ any (onPage p) (keep (stays p) online)
         → (inFrame e ≡ true → pageIn (g .size) (frameOf e) pool ≡ applied (keep (onPage p) (keep (stays p) online)) (pageIn (g .size) p st))
         → LostRight g done opened live frames ms st pool o lives (set entries p e) (keep (stays p) online)
-    with-entry e o seat dirt shows =
-        record {
-          seated = seat;
-          entries-length = length-set entries p e ∙ l .entries-length;
-          lives-length = l .lives-length;
-          lives-bits = l .lives-bits;
-          alive = l .alive;
-          dirty = λ q h. dirty-at q h (eqb q p) refl;
-          online-is = is;
-          frame = λ q h. frame-at q h (eqb q p) refl;
-        }
-      where
-        at-page : (q : ℕ) → q ≡ p → getD (set entries p e) q 0 ≡ e
-        at-page q z = ap (λ (i : ℕ). getD (set entries p e) i 0) z ∙ getD-set-same entries p e 0 entry-there
-
-        at-other : (q : ℕ) → (q ≡ p → ⊥) → getD (set entries p e) q 0 ≡ getD entries q 0
-        at-other q n = getD-set-other entries p q e 0 n
-
-        dirty-at : (q : ℕ) → q < g .pages → (t : Bool) → eqb q p ≡ t → isDirty (getD (set entries p e) q 0) ≡ any (onPage q) (keep (stays p) online)
-        dirty-at q h true z =
-            let i : q ≡ p = eqb-true q p z in
-            ap (λ (x : ℕ). isDirty x) (at-page q i) ∙ dirt ∙ ap (λ (x : ℕ). any (onPage x) (keep (stays p) online)) (sym i)
-        dirty-at q h false z =
-            let n : q ≡ p → ⊥ = eqb-false q p z in
-            ap (λ (x : ℕ). isDirty x) (at-other q n) ∙ l .dirty q h ∙ sym (stays-any p q n online)
-
-        frame-at : (q : ℕ) → q < g .pages → (t : Bool) → eqb q p ≡ t → inFrame (getD (set entries p e) q 0) ≡ true
-            → pageIn (g .size) (frameOf (getD (set entries p e) q 0)) pool ≡ applied (keep (onPage q) (keep (stays p) online)) (pageIn (g .size) q st)
-        frame-at q h true z f =
-            let i : q ≡ p = eqb-true q p z in
-            ap (λ (x : ℕ). pageIn (g .size) (frameOf x) pool) (at-page q i)
-            ∙ shows (ap (λ (x : ℕ). inFrame x) (sym (at-page q i)) ∙ f)
-            ∙ ap (λ (x : ℕ). applied (keep (onPage x) (keep (stays p) online)) (pageIn (g .size) x st)) (sym i)
-        frame-at q h false z f =
-            let n : q ≡ p → ⊥ = eqb-false q p z in
-            ap (λ (x : ℕ). pageIn (g .size) (frameOf x) pool) (at-other q n)
-            ∙ l .frame q h (ap (λ (x : ℕ). inFrame x) (sym (at-other q n)) ∙ f)
-            ∙ ap (λ (rs : List (List ℕ)). applied rs (pageIn (g .size) q stored)) (sym (stays-other p q n online))
-            ∙ ap (λ (x : List ℕ). applied (keep (onPage q) (keep (stays p) online)) x) (sym (there q h n))
+    with-entry e o seat dirt shows = lost-entry l p e k seat is dirt shows (λ q n. stays-other p q n online) there (λ q h n f. refl)
 
     -- clean in its frame, which is the stored page
     kept-clean : whole ≡ true → inFrame entry ≡ true → LostRight g done opened live frames ms st pool order lives (set entries p (cleanIn (frameOf entry))) (keep (stays p) online)

@@ -22,8 +22,8 @@ use Rattle.redo.proofs.View.{keep-append}
 use Rattle.redo.proofs.Views.{rising, keep-keep, keep-same, keep-same-where, keep-both, keep-all, keep-none, stored-then-online}
 use Rattle.redo.proofs.Reader.{every-kept-where}
 use Rattle.seats.proofs.Loops.{any-kept}
-use Rattle.history.proofs.Tested.{every-keep, picked-every}
 use Rattle.history.proofs.Right.{uncommitted, aboveStamp}
+use Rattle.history.proofs.Tested.{every-keep, picked-every}
 
 -- a page's committed records are gone, the others stay
 abbrev pub stays : ℕ → List ℕ → Bool
@@ -88,9 +88,6 @@ stays-other p q d l = keep-keep (onPage q) (stays p) l ∙ keep-same (λ (r : Li
         let n : onPage p r ≡ false = ne-eqb (pageOf r) p (λ z. d (sym (eqb-true (pageOf r) q e) ∙ z)) in
         rw n
     go r false e = and-false (stays p r)
-
-pub stays-any : (p q : ℕ) → (q ≡ p → ⊥) → (l : List (List ℕ)) → any (onPage q) (keep (stays p) l) ≡ any (onPage q) l
-stays-any p q d l = any-kept (onPage q) (keep (stays p) l) ∙ ap (λ (k : List (List ℕ)). not (eqb (length k) 0)) (stays-other p q d l) ∙ sym (any-kept (onPage q) l)
 
 -- online is what no stored page holds, then what is not committed: `above` is the test for the first
 module _ (p : ℕ) (above : List ℕ → Bool) (rows opened online : List (List ℕ)) (hc : every committed rows ≡ true) (ho : every uncommitted opened ≡ true) (is : online ≅ keep above rows ++ opened) where

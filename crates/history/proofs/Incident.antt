@@ -22,9 +22,9 @@ use Rattle.redo.proofs.Numbered.{every-not-owned, keep-others-all, numbered-com
 use Rattle.history.specs.Past.{Past, begins, updates, commits, aborts, falls, rises, startPage, shown}
 use Rattle.history.specs.Committed.{committedOf, numberedTo}
 use Rattle.history.proofs.Right.{Ground, PastRight, rowsOf, uncommitted, openOf}
-use Rattle.history.proofs.Pasts.{made-wide}
 use Rattle.history.proofs.Tested.{every-append}
 use Rattle.history.proofs.Facts.{done-committed, done-last, open-unset, open-every}
+use Rattle.history.proofs.Pasts.{made-wide}
 
 -- begin, abort, update, a loss and a restart leave what is committed as it is
 pub begin-keeps : (h : Past) (x : ℕ) → committedOf (begins h x) ≡ committedOf h

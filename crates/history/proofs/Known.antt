@@ -14,8 +14,8 @@ use Rattle.onlinecheck.proofs.Rows.{every-imp}
 use Rattle.redo.proofs.Loose.{≅-any, ≅-owned}
 use Rattle.redo.proofs.Numbered.{every-not-owned}
 use Rattle.history.specs.Past.{Past}
-use Rattle.history.proofs.Tested.{every-keep, any-behind, keep-behind}
 use Rattle.history.proofs.Right.{Ground, rowsOf, openOf, aboveStamp, Right}
+use Rattle.history.proofs.Tested.{every-keep, any-behind, keep-behind}
 use Rattle.history.proofs.Facts.{done-committed, done-last}
 use Rattle.history.proofs.Soundly.{live-byte}
 

@@ -9,8 +9,8 @@ pub mod Pasts
 pub mod Soundly
 pub mod Known
 pub mod Saying
--- a chapter a step: the transaction calls
-pub mod Lives
+-- a chapter a step, and what they share: the transaction calls
+pub mod Carried
 pub mod Begins
 pub mod Fetches
 pub mod CommitDurable

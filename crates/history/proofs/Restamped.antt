@@ -14,9 +14,9 @@ use Rattle.record.specs.Record.{pageOf, numberOf, applied, onPage}
 use Rattle.rules.specs.Lent.{Durable, sizeOf, pagesOf, lastOf, closedOf, loggedOf, firstOf, stampAt, stampOf, dirtyOf, pageIn, withPage}
 use Rattle.rules.specs.Sound.{every, zeros}
 use Rattle.redo.proofs.Views.{keep-same}
+use Rattle.redo.proofs.Reader.{every-both}
 use Rattle.readback.proofs.Marks.{restamped-length, restamped-front, restamped-same, restamped-other, restamped-dirty}
 use Rattle.readback.proofs.Pages.{pages-length, page-same, page-other}
-use Rattle.redo.proofs.Reader.{every-both}
 use Rattle.history.proofs.Right.{Ground, DurableRight, rowsOf, aboveStamp, only}
 use Rattle.history.proofs.Facts.{marks-long}
 

@@ -25,9 +25,9 @@ use Rattle.readback.proofs.Lost.{reads-restarted}
 use Rattle.history.specs.Past.{Past, falls, rises}
 use Rattle.history.specs.Run.{Fits, afterLoss}
 use Rattle.history.proofs.Right.{Ground, DurableRight, LostRight, Right, Down, rowsOf, aboveStamp}
+use Rattle.history.proofs.Settle.{settle}
 use Rattle.history.proofs.Tested.{every-keep}
 use Rattle.history.proofs.Facts.{done-paged, ranges}
-use Rattle.history.proofs.Settle.{settle}
 use Rattle.history.proofs.Pasts.{past-falls, past-rises, open-falls, open-rises}
 
 -- restart's rule, by the number and page of a row

@@ -10,9 +10,9 @@ use lib.Dec.{eqb}
 use borrow.Author.Tests.{eq-eqb, not-true}
 use Rattle.record.specs.Rows.{rowAt, rows, keep, consIf, any}
 use Rattle.record.specs.Record.{entered}
-use Rattle.onlinecheck.proofs.Rows.{and-both}
 use Rattle.table.proofs.Laws.{Wide, none, one, keep-no}
 use Rattle.rules.specs.Sound.{every, pairs, upTo, same}
+use Rattle.onlinecheck.proofs.Rows.{and-both}
 use Rattle.redo.proofs.Loose.{_≅_, numberedFrom, ≅-every}
 use Rattle.redo.proofs.Reader.{every-kept-where}
 use Rattle.seats.proofs.Counting.{upTo-all as upTo-from}

@@ -17,7 +17,7 @@ use Rattle.rules.specs.Lent.{Lent, Lost, pagesOf}
 use Rattle.rules.specs.Sound.{between}
 use Rattle.rules.specs.Steps.{begun, readStep, readBytes, updated, owned, committing, aborted, evicted, due, compacted, closed, checkpointed, restarted, formatted}
 use Rattle.rules.specs.Calls.{Outcome, settled, doneWith, dueOr, judgeBegin, beginCall, judgeRead, readCall, judgeUpdate, updateCall, judgeCommit, commitCall, judgeAbort, abortCall, judgeEvict, evictCall, judgeCompact, compactCall, judgeClose, closeCall, judgeCheckpoint, checkpointCall, judgeRestart, restartCall, judgeFormat, formatCall}
-use Rattle.ventarico.proofs.Went.{begin-went, abort-went, evict-went, commit-went, read-went, update-went, update-whose, compact-went}
+use Rattle.ventarico.proofs.Went.{begin-went, abort-went, evict-went, commit-went, read-went, update-went, update-whose, compact-went, format-went}
 use Rattle.history.specs.Past.{Past, fresh, begins, updates, commits, aborts, falls, rises}
 use Rattle.history.specs.Run.{Call, Begin, Commit, Abort, Evict, Read, Update, Compact, Checkpoint, Close, Restart, outcome, taken, told, Fits, afterLoss, afterSteps, Run, format, no-format, call, restart, loss, loss-inside}
 use Rattle.history.proofs.Right.{Ground, Right, Down}
@@ -180,7 +180,7 @@ unfolding formatCall fresh
 stands-format s size pages frames room span last m e = go (judgeFormat s size pages frames room span) refl e
   where
     go : (v : Verdict) → judgeFormat s size pages frames room span ≡ v → settled v s [] (doneWith (formatted s size pages frames room span last) []) .answer ≡ Done (record { reads = 0; writes = 0; logs = 0 }) → Stands (fresh size pages last (s .durable .stored)) (settled v s [] (doneWith (formatted s size pages frames room span last) []) .lent)
-    go Go f k = up (record { size = size; pages = pages; start = s .durable .stored; base = last }) [] refl (format-right s size pages frames room span last m f)
+    go Go f k = up (record { size = size; pages = pages; start = s .durable .stored; base = last }) [] refl (let w = format-went s size pages frames room span f in format-right s size pages frames room span last m (w .0) (w .2))
     go (Refuse why) f k = let z : _≡_ {A = Bool} false true = cc in absurd (mathlib.Core.Bool.false≢true z)
 
 stands-no-format : {h : Past} {s : Lent} → Stands h s → (size pages frames room span last : ℕ) (why : Refusal) → formatCall s size pages frames room span last .answer ≡ Refused why → Stands h (formatCall s size pages frames room span last .lent)
