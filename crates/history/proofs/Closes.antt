@@ -1,5 +1,5 @@
 -- Close keeps what is right: no record is dropped that a stored page lacks, and restart will pass over none of these.
-use Prim.Native.Nat.{ℕ, _+_, _*_, _-_, _≤_, _<_}
+use Prim.Native.Nat.{ℕ, _+_, _-_, _≤_, _<_}
 use native.Mathlib.Omega.{arith}
 use mathlib.Core.Path.{_≡_, refl, sym, ap, _∙_, subst}
 use mathlib.Core.Logic.{_⊎_, inl, inr}
@@ -9,11 +9,10 @@ use lib.ListN.{length, drop}
 use lib.Seq.{drop-drop}
 use lib.Dec.{eqb, leb, ltb}
 use borrow.Author.Tests.{eq-eqb, ne-eqb, leb-true, le-leb, ltb-true}
-use Rattle.word.specs.Word.{num}
 use Rattle.record.specs.Rows.{keep}
 use Rattle.record.specs.Record.{pageOf, numberOf, committed, applied, onPage, committedOn, smallest}
-use Rattle.rules.specs.Lent.{Lent, pagesOf, framesOf, roomOf, spanOf, lastOf, closedOf, loggedOf, dirtyOf, firstOf, logOf, orderOf, entriesOf, onlineOf, pageIn}
-use Rattle.rules.specs.Sound.{every, between, inRange}
+use Rattle.rules.specs.Lent.{Lent, pagesOf, framesOf, roomOf, lastOf, closedOf, loggedOf, dirtyOf, firstOf, logOf, orderOf, entriesOf, onlineOf, pageIn}
+use Rattle.rules.specs.Sound.{every, between}
 use Rattle.rules.specs.Steps.{droppedBy, closed}
 use Rattle.rules.proofs.Extremes.{numberAtMost}
 use Rattle.rules.proofs.Needed.{dropped-below}
@@ -30,7 +29,7 @@ use Rattle.history.specs.Past.{Past}
 use Rattle.history.proofs.Right.{Ground, DurableRight, LostRight, Right, rowsOf, openOf, aboveStamp}
 use Rattle.history.proofs.Settle.{settle}
 use Rattle.history.proofs.Tested.{and-in}
-use Rattle.history.proofs.Facts.{done-paged, done-committed, open-unset, open-every, marks-long, logged-last, online-each}
+use Rattle.history.proofs.Facts.{done-paged, done-committed, open-unset, open-every, dirt-same, marks-long, logged-last, online-each}
 use Rattle.history.proofs.Known.{rows-last}
 use Rattle.history.proofs.Carried.{lost-restated}
 use Rattle.history.proofs.Least.{kept-numbered, kept-from, least-within, lacked-from, lacked-dirty}
@@ -121,14 +120,9 @@ module _ (g : Ground) (done : List (List ℕ)) (h : Past) (s : Lent) (r : Right 
   dirty-is p k = dirty-close s (marks-long (r .durable)) (r .durable .bound) small p (below p k) numbers-small
 
   dirty-after : (p : ℕ) → p < g .pages → (dirtyOf after p ≡ 0) ⊎ ((firstOf after ≤ dirtyOf after p) × (dirtyOf after p ≤ closedOf after))
-  dirty-after p k = go (least-within above (rowsOf g done) (openOf h) (r .lost .online-is) (firstOf after) (lastOf s) (omega arith) (to-last (firstOf after) needed-after) (open-unset (r .past)) (committedOn p) (λ q e. and-both (eqb (pageOf q) p) (committed q) e .1))
-    where
-      lowest : ℕ
-      lowest = smallest 0 (keep (committedOn p) (onlineOf s))
-
-      go : (lowest ≡ 0) ⊎ ((firstOf after ≤ lowest) × (lowest ≤ lastOf s)) → (dirtyOf after p ≡ 0) ⊎ ((firstOf after ≤ dirtyOf after p) × (dirtyOf after p ≤ closedOf after))
-      go (inl e) = inl (dirty-is p k ∙ e)
-      go (inr e) = let d : dirtyOf after p ≡ lowest = dirty-is p k in inr (omega (arith, d, e .0), omega (arith, d, e .1, closed-is))
+  dirty-after p k =
+      dirt-same refl (dirty-is p k) closed-is
+      (least-within above (rowsOf g done) (openOf h) (r .lost .online-is) (firstOf after) (lastOf s) (omega arith) (to-last (firstOf after) needed-after) (open-unset (r .past)) (committedOn p) (λ q e. and-both (eqb (pageOf q) p) (committed q) e .1))
 
   -- the stamps stay, so the same rows are above them
   above-same : (q : List ℕ) → pageBelow (g .pages) q ≡ true → aboveStamp (after .durable .marks) q ≡ above q
@@ -162,21 +156,6 @@ module _ (g : Ground) (done : List (List ℕ)) (h : Past) (s : Lent) (r : Right 
           let e : 1 ≤ smallest 0 (keep (committedOn (pageOf q)) (onlineOf s)) = leb-true 1 (smallest 0 (keep (committedOn (pageOf q)) (onlineOf s))) b in
           no-both (leb (numberOf q) (closedOf after)) (eqb (dirtyOf after (pageOf q)) 0) (ne-eqb (dirtyOf after (pageOf q)) 0 (λ z. omega arith))
 
-  -- what format fixed, and the stored pages, stay
-  fixed-same : after .durable .fixed ≡ s .durable .fixed
-  unfolding closed
-  fixed-same = refl
-
-  stored-same : after .durable .stored ≡ s .durable .stored
-  unfolding closed
-  stored-same = refl
-
-  pages-same : pagesOf after ≡ pagesOf s
-  pages-same = ap (λ (f : List ℕ). num 4 f 4) fixed-same
-
-  span-same : spanOf after ≡ spanOf s
-  span-same = ap (λ (f : List ℕ). num 4 f 16) fixed-same
-
   log-after : logOf after ≡ drop (length done - loggedOf after) done
   log-after =
       let e : length done - loggedOf s + droppedBy s ≡ length done - loggedOf after = omega (arith, r .durable .logged-done, logged-is, dropped-few) in
@@ -186,18 +165,19 @@ module _ (g : Ground) (done : List (List ℕ)) (h : Past) (s : Lent) (r : Right 
       ∙ ap (λ (n : ℕ). drop n done) e
 
   durable-after : DurableRight g done (after .durable)
+  unfolding closed
   durable-after =
       record {
-        fixed = ap length fixed-same ∙ r .durable .fixed;
-        range = ap (λ (f : List ℕ). inRange (num 4 f 0) (num 4 f 4) (num 4 f 8) (num 4 f 12) (num 4 f 16)) fixed-same ∙ r .durable .range;
-        size = ap (λ (f : List ℕ). num 4 f 0) fixed-same ∙ r .durable .size;
-        pages = pages-same ∙ r .durable .pages;
+        fixed = r .durable .fixed;
+        range = r .durable .range;
+        size = r .durable .size;
+        pages = r .durable .pages;
         marks = marks-close s (marks-long (r .durable)) (r .durable .bound) small ∙ r .durable .marks;
-        log = log-length-close s (marks-long (r .durable)) (r .durable .log) (r .durable .logged) (r .durable .bound) small ∙ r .durable .log ∙ ap (λ (n : ℕ). 14 * n) (sym span-same);
-        stored = ap length stored-same ∙ r .durable .stored;
+        log = log-length-close s (marks-long (r .durable)) (r .durable .log) (r .durable .logged) (r .durable .bound) small ∙ r .durable .log;
+        stored = r .durable .stored;
         last = last-same ∙ r .durable .last;
         bound = omega (arith, last-same, r .durable .bound);
-        logged = omega (arith, logged-is, span-same, r .durable .logged);
+        logged = omega (arith, logged-is, r .durable .logged);
         logged-done = omega (arith, logged-is, r .durable .logged-done);
         log-read = log-after;
         log-zero = log-zero-close s (marks-long (r .durable)) (r .durable .log) (r .durable .logged) (r .durable .bound) small;
@@ -207,8 +187,8 @@ module _ (g : Ground) (done : List (List ℕ)) (h : Past) (s : Lent) (r : Right 
         first = omega (arith, closed-is, last-same);
         needed = restamped (λ (q : List ℕ). leb (firstOf after) (numberOf q)) needed-after;
         entered = restamped (λ (q : List ℕ). not (leb (numberOf q) (closedOf after) && eqb (dirtyOf after (pageOf q)) 0)) entered-after;
-        fits = subst (λ (l : List (List ℕ)). length l ≤ roomOf after) (sym lacked-same) (subst (λ (f : List ℕ). length (keep above (rowsOf g done)) ≤ num 4 f 12) (sym fixed-same) (r .durable .fits));
-        page = λ p k. ap (λ (l : List ℕ). pageIn (g .size) p l) stored-same ∙ r .durable .page p k
+        fits = subst (λ (l : List (List ℕ)). length l ≤ roomOf s) (sym lacked-same) (r .durable .fits);
+        page = λ p k. r .durable .page p k
             ∙ ap (λ (l : List (List ℕ)). applied l (pageIn (g .size) p (g .start)))
             (sym (keep-same-where (pageBelow (g .pages)) (λ (q : List ℕ). onPage p q && not (aboveStamp (after .durable .marks) q)) (λ (q : List ℕ). onPage p q && not (above q)) (λ q e. ap (λ (t : Bool). onPage p q && not t) (above-same q e)) (rowsOf g done) (done-paged (r .past))));
       }

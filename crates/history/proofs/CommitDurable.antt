@@ -3,7 +3,6 @@
 use Prim.Native.Nat.{ℕ, _+_, _-_, _≤_, _<_}
 use native.Mathlib.Omega.{arith}
 use mathlib.Core.Path.{_≡_, sym, ap, _∙_}
-use mathlib.Core.Logic.{_⊎_, inl, inr}
 use mathlib.Core.Bool.{Bool, true, not, _&&_, _||_, and-false}
 use mathlib.Core.List.{List, _++_, map, append-nil}
 use lib.ListN.{length, drop, length-append, length-map}
@@ -30,7 +29,7 @@ use Rattle.readback.proofs.Log.{log-commit, log-zero-commit, log-length-commit}
 use Rattle.history.specs.Past.{Past}
 use Rattle.history.proofs.Right.{Ground, Right, DurableRight, rowsOf, openOf, aboveStamp}
 use Rattle.history.proofs.Tested.{every-append}
-use Rattle.history.proofs.Facts.{ranges, marks-long}
+use Rattle.history.proofs.Facts.{dirt-same, ranges, marks-long}
 
 -- of records numbered on from L: each number is above L
 abbrev after : ℕ → List ℕ → Bool
@@ -146,13 +145,6 @@ module _ {g : Ground} {done : List (List ℕ)} {h : Past} {s : Lent} (x : ℕ) (
       ∙ sym (drop-append-le d done more (omega arith))
       ∙ ap (λ (n : ℕ). drop n (done ++ more)) e
 
-  dirty-between : (p : ℕ) → p < g .pages → (dirtyOf (committing s x .lent) p ≡ 0) ⊎ ((firstOf (committing s x .lent) ≤ dirtyOf (committing s x .lent) p) × (dirtyOf (committing s x .lent) p ≤ closedOf (committing s x .lent)))
-  dirty-between p m = go (r .durable .dirty p m)
-    where
-      go : (dirtyOf s p ≡ 0) ⊎ ((firstOf s ≤ dirtyOf s p) × (dirtyOf s p ≤ closedOf s)) → (dirtyOf (committing s x .lent) p ≡ 0) ⊎ ((firstOf (committing s x .lent) ≤ dirtyOf (committing s x .lent) p) × (dirtyOf (committing s x .lent) p ≤ closedOf (committing s x .lent)))
-      go (inl e) = inl (dirty-left p ∙ e)
-      go (inr e) = inr (omega (arith, e .0, first-left, dirty-left p), omega (arith, e .1, closed-left, dirty-left p))
-
   room-left : length (keep (aboveStamp after-marks) (rowsOf g (done ++ more))) ≤ roomOf s
   unfolding newer
   room-left =
@@ -209,7 +201,7 @@ module _ {g : Ground} {done : List (List ℕ)} {h : Past} {s : Lent} (x : ℕ) (
         log-zero = log-zero-commit s (marks-long (r .durable)) (r .durable .log) (r .durable .logged) x (r .whole .wide) numbers logs;
         stamps = λ (p : ℕ) (m : p < g .pages). omega (arith, stamp-commit s (marks-long (r .durable)) x numbers logs p, r .durable .stamps p m, last-on);
         closed = omega (arith, closed-left, r .durable .closed, last-on);
-        dirty = dirty-between;
+        dirty = λ (p : ℕ) (m : p < g .pages). dirt-same first-left (dirty-left p) closed-left (r .durable .dirty p m);
         first = omega (arith, first-left, closed-left, r .durable .first);
         needed = needed-more;
         entered = entered-more;

@@ -3,6 +3,7 @@
 use Prim.Native.Nat.{ℕ, _+_, _*_, _≤_}
 use native.Mathlib.Omega.{arith}
 use mathlib.Core.Path.{_≡_, sym, ap, _∙_}
+use mathlib.Core.Logic.{_⊎_, inl, inr}
 use mathlib.Core.Bool.{Bool, true, false, not, _&&_, _||_}
 use mathlib.Core.List.{List}
 use lib.ListN.{length}
@@ -79,6 +80,12 @@ module _ {g : Ground} {done : List (List ℕ)} {h : Past} (p : PastRight g done 
 
   pub open-every : (c : List ℕ → Bool) → ((r : List ℕ) → OpenFacts g (h .live) r → c r ≡ true) → every c (openOf h) ≡ true
   open-every c f = every-imp (openRow g (h .live)) c (λ r e. f r (open-facts g (h .live) r e)) (openOf h) (p .open-rows)
+
+-- a dirty number is none or one of the log's up to K, by other marks that say the same
+pub dirt-same : {first dirt closed first′ dirt′ closed′ : ℕ} → first′ ≡ first → dirt′ ≡ dirt → closed′ ≡ closed
+    → (dirt ≡ 0) ⊎ ((first ≤ dirt) × (dirt ≤ closed)) → (dirt′ ≡ 0) ⊎ ((first′ ≤ dirt′) × (dirt′ ≤ closed′))
+dirt-same e f k (inl h) = inl (f ∙ h)
+dirt-same e f k (inr h) = inr (omega (arith, e, f, h .0), omega (arith, f, k, h .1))
 
 module _ {g : Ground} {done : List (List ℕ)} {d : Durable} (r : DurableRight g done d) where
   -- what format fixed is in its ranges, and the areas have the lengths that it says

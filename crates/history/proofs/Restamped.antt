@@ -2,7 +2,6 @@
 use Prim.Native.Nat.{ℕ, _+_, _*_, _-_, _≤_, _<_}
 use native.Mathlib.Omega.{arith}
 use mathlib.Core.Path.{_≡_, refl, sym, ap, _∙_}
-use mathlib.Core.Logic.{_⊎_, inl, inr}
 use mathlib.Core.Bool.{Bool, true, false, not, _&&_, _||_}
 use mathlib.Core.List.{List}
 use lib.ListN.{length, drop}
@@ -18,7 +17,7 @@ use Rattle.redo.proofs.Reader.{every-both}
 use Rattle.readback.proofs.Marks.{restamped-length, restamped-front, restamped-same, restamped-other, restamped-dirty}
 use Rattle.readback.proofs.Pages.{pages-length, page-same, page-other}
 use Rattle.history.proofs.Right.{Ground, DurableRight, rowsOf, aboveStamp, only}
-use Rattle.history.proofs.Facts.{marks-long}
+use Rattle.history.proofs.Facts.{dirt-same, marks-long}
 
 through : (a b c : Bool) → (not a || b) ≡ true → (not b || c) ≡ true → (not a || c) ≡ true
 through true true c h k = k
@@ -96,11 +95,6 @@ module _ {g : Ground} {done : List (List ℕ)} {d : Durable} (r : DurableRight g
         go true e = let f : stampOf (only now) q ≡ n = ap (λ (i : ℕ). num 4 marks (stampAt i)) (eqb-true q p e) ∙ stamp-here in omega (arith, last-now)
         go false e = omega (arith, stamp-other q (eqb-false q p e), last-now, r .stamps q h)
 
-    dirts-now : (q : ℕ) → (dirtyOf (only d) q ≡ 0) ⊎ ((firstOf (only d) ≤ dirtyOf (only d) q) × (dirtyOf (only d) q ≤ closedOf (only d)))
-        → (dirtyOf (only now) q ≡ 0) ⊎ ((firstOf (only now) ≤ dirtyOf (only now) q) × (dirtyOf (only now) q ≤ closedOf (only now)))
-    dirts-now q (inl e) = inl (dirty-now q ∙ e)
-    dirts-now q (inr e) = inr (omega (arith, first-now, dirty-now q, e .0), omega (arith, closed-now, dirty-now q, e .1))
-
     needed-now : every (λ (x : List ℕ). not (aboveStamp marks x) || leb (firstOf (only now)) (numberOf x)) (rowsOf g done) ≡ true
     needed-now =
         ap (λ (m : ℕ). every (λ (x : List ℕ). not (aboveStamp marks x) || leb m (numberOf x)) (rowsOf g done)) first-now
@@ -155,7 +149,7 @@ module _ {g : Ground} {done : List (List ℕ)} {d : Durable} (r : DurableRight g
           log-zero = ap (λ (m : ℕ). zeros (drop (m * 14) (d .log))) logged-now ∙ r .log-zero;
           stamps = stamps-now;
           closed = omega (arith, closed-now, last-now, r .closed);
-          dirty = λ q h. dirts-now q (r .dirty q h);
+          dirty = λ q h. dirt-same first-now (dirty-now q) closed-now (r .dirty q h);
           first = omega (arith, first-now, closed-now, r .first);
           needed = needed-now;
           entered = entered-now;
