@@ -14,7 +14,7 @@ use Rattle.rules.specs.Lent.{inFrame, frameOf, isDirty, pageIn}
 use Rattle.rules.proofs.Every.{every-set}
 use Rattle.redo.proofs.Loose.{_≅_}
 use Rattle.seats.proofs.Seated.{Seated}
-use Rattle.seats.proofs.Loops.{any-kept}
+use Rattle.seats.proofs.Loops.{any-by}
 use Rattle.history.proofs.Right.{Ground, LostRight, rowsOf, aboveStamp}
 
 -- begin makes a number live, commit and abort end that: one live byte is set
@@ -109,7 +109,7 @@ module _ {g : Ground} {done opened : List (List ℕ)} {live : ℕ → Bool} {fra
         dirty-at q h false z =
             let n : q ≡ p → ⊥ = eqb-false q p z in
             ap (λ (x : ℕ). isDirty x) (entry-else q n) ∙ l .dirty q h
-            ∙ any-kept (onPage q) online ∙ ap (λ (rs : List (List ℕ)). not (eqb (length rs) 0)) (sym (rows q n)) ∙ sym (any-kept (onPage q) online′)
+            ∙ any-by (onPage q) online online′ (sym (rows q n))
 
         frame-at : (q : ℕ) → q < g .pages → (t : Bool) → eqb q p ≡ t → inFrame (getD (set entries p e) q 0) ≡ true
             → pageIn (g .size) (frameOf (getD (set entries p e) q 0)) pool′ ≡ applied (keep (onPage q) online′) (pageIn (g .size) q stored′)

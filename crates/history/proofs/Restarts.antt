@@ -95,12 +95,6 @@ entering-is g done s w d =
     last : lastOf s ≡ g .base + length done
     last = d .last
 
-    bound : lastOf s ≤ 4294967295
-    bound = d .bound
-
-    logged : loggedOf s ≤ length done
-    logged = d .logged-done
-
     above : List ℕ → Bool
     above r = aboveStamp (s .durable .marks) r
 

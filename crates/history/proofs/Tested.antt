@@ -7,21 +7,24 @@ use mathlib.Core.Bool.{Bool, true, false, not, _&&_, _||_}
 use mathlib.Core.List.{List, [], _∷_, _++_}
 use lib.ListN.{length, getD, drop}
 use lib.Dec.{eqb}
-use borrow.Author.Tests.{eq-eqb, not-true}
+use borrow.Author.Tests.{eq-eqb}
 use Rattle.record.specs.Rows.{rowAt, rows, keep, consIf, any}
 use Rattle.record.specs.Record.{entered}
-use Rattle.table.proofs.Laws.{Wide, none, one, keep-no}
+use Rattle.table.proofs.Laws.{Wide, none, one}
 use Rattle.rules.specs.Sound.{every, pairs, upTo, same}
 use Rattle.onlinecheck.proofs.Rows.{and-both}
+use Rattle.redo.proofs.View.{keep-append}
+use Rattle.redo.proofs.Views.{keep-none}
 use Rattle.redo.proofs.Loose.{_≅_, numberedFrom, ≅-every}
 use Rattle.redo.proofs.Reader.{every-kept-where}
+use Rattle.seats.proofs.Loops.{any-by}
 use Rattle.seats.proofs.Counting.{upTo-all as upTo-from}
 
--- tests together, and a test that holds on one side
+-- tests together, and what follows from a test that holds
 pub and-in : (a b : Bool) → a ≡ true → b ≡ true → (a && b) ≡ true
 and-in a b h k = rw (h, k)
 
-pub or-of : (a b : Bool) → a ≡ true → (not a || b) ≡ true → b ≡ true
+or-of : (a b : Bool) → a ≡ true → (not a || b) ≡ true → b ≡ true
 or-of true b h k = k
 or-of false b h k = let z : _≡_ {A = ℕ} 0 1 = cc in absurd (omega arith)
 
@@ -55,7 +58,7 @@ every-front c (r ∷ l) m h =
     let e : (c r ≡ true) × (every c (l ++ m) ≡ true) = and-both (c r) (every c (l ++ m)) h in
     and-in (c r) (every c l) (e .0) (every-front c l m (e .1))
 
--- of those kept, told of all, and back
+-- those kept: what all pass, what follows from the test that kept them; and that told of all
 pub every-keep : (a c : List ℕ → Bool) (l : List (List ℕ)) → every c l ≡ true → every c (keep a l) ≡ true
 every-keep a c l h = every-kept-where a c c (λ r e k. k) l h
 
@@ -78,7 +81,7 @@ pub online-all : (above : List ℕ → Bool) (rows opened : List (List ℕ)) {on
     → (c : List ℕ → Bool) → every (λ (r : List ℕ). not (above r) || c r) rows ≡ true → every c opened ≡ true → every c online ≡ true
 online-all above rows opened is c h k = ≅-every c is ∙ every-append c (keep above rows) opened (every-picked above c rows h) k
 
--- each two: of those kept; appended to ones that each pass with all that follow
+-- each two of those kept
 pub pairs-keep : (a : List ℕ → Bool) (b : List ℕ → List ℕ → Bool) (l : List (List ℕ)) → pairs b l ≡ true → pairs b (keep a l) ≡ true
 unfolding pairs keep
 pairs-keep a b [] h = refl
@@ -91,19 +94,11 @@ pairs-keep a b (r ∷ l) h =
     pick false h k = k
 
 -- rows of which none passes, before others
-pub any-behind : (c : List ℕ → Bool) (l m : List (List ℕ)) → every (λ (r : List ℕ). not (c r)) l ≡ true → any c (l ++ m) ≡ any c m
-unfolding every any
-any-behind c [] m h = refl
-any-behind c (r ∷ l) m h =
-    let e : (not (c r) ≡ true) × (every (λ (q : List ℕ). not (c q)) l ≡ true) = and-both (not (c r)) (every (λ (q : List ℕ). not (c q)) l) h in
-    ap (λ (t : Bool). t || any c (l ++ m)) (not-true (c r) (e .0)) ∙ any-behind c l m (e .1)
-
 pub keep-behind : (c : List ℕ → Bool) (l m : List (List ℕ)) → every (λ (r : List ℕ). not (c r)) l ≡ true → keep c (l ++ m) ≡ keep c m
-unfolding every
-keep-behind c [] m h = refl
-keep-behind c (r ∷ l) m h =
-    let e : (not (c r) ≡ true) × (every (λ (q : List ℕ). not (c q)) l ≡ true) = and-both (not (c r)) (every (λ (q : List ℕ). not (c q)) l) h in
-    keep-no c r (l ++ m) (not-true (c r) (e .0)) ∙ keep-behind c l m (e .1)
+keep-behind c l m h = keep-append c l m ∙ ap (λ (k : List (List ℕ)). k ++ keep c m) (keep-none c l h)
+
+pub any-behind : (c : List ℕ → Bool) (l m : List (List ℕ)) → every (λ (r : List ℕ). not (c r)) l ≡ true → any c (l ++ m) ≡ any c m
+any-behind c l m h = any-by c (l ++ m) m (keep-behind c l m h)
 
 -- a row is the same as itself
 pub same-itself : (l : List ℕ) → same l l ≡ true

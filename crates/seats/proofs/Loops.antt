@@ -289,6 +289,10 @@ any-kept b (r ∷ l) = pick (b r) (any-kept b l)
     pick true e = ap not (sym (ne-eqb (suc (length (keep b l))) 0 (λ z. omega arith)))
     pick false e = e
 
+-- so rows of which the same are kept have one alike
+pub any-by : (b : List ℕ → Bool) (l m : List (List ℕ)) → keep b l ≡ keep b m → any b l ≡ any b m
+any-by b l m e = any-kept b l ∙ ap (λ (k : List (List ℕ)). not (eqb (length k) 0)) e ∙ sym (any-kept b m)
+
 -- a page that had no row of the owner's has the rows that it had
 pub abort-rows : (x p : ℕ) (l : List (List ℕ)) → any (onPage p) (keep (ownedBy x) l) ≡ false → keep (onPage p) (keep (λ (r : List ℕ). not (ownedBy x r)) l) ≡ keep (onPage p) l
 abort-rows x p l h = rest-kept (onPage p) (ownedBy x) l h
@@ -303,4 +307,4 @@ abort-dirty x p l es h d = ap (λ (e : ℕ). isDirty e) (judged-entry remain (ke
 
     go : (b : Bool) → any (onPage p) (keep (ownedBy x) l) ≡ b → isDirty (cond b (judge remain p) (getD es p 0)) ≡ any (onPage p) remain
     go true e = bit-dirty (any (onPage p) remain)
-    go false e = d ∙ any-kept (onPage p) l ∙ ap (λ (m : List (List ℕ)). not (eqb (length m) 0)) (sym (abort-rows x p l e)) ∙ sym (any-kept (onPage p) remain)
+    go false e = d ∙ any-by (onPage p) l remain (sym (abort-rows x p l e))
