@@ -92,9 +92,6 @@ entering-is g done s w d =
     gone : ℕ
     gone = length done - loggedOf s
 
-    last : lastOf s ≡ g .base + length done
-    last = d .last
-
     above : List ℕ → Bool
     above r = aboveStamp (s .durable .marks) r
 
