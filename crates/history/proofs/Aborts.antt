@@ -1,66 +1,46 @@
 -- Abort keeps what is right: the owner's updates leave history and online table alike, and each page that had one loses its frame.
 use Prim.Native.Nat.{ℕ, _+_, _-_, _≤_, _<_}
 use native.Mathlib.Omega.{arith}
-use mathlib.Core.Path.{_≡_, refl, sym, ap, _∙_, subst}
-use mathlib.Core.Bool.{Bool, true, false, not, _&&_}
+use mathlib.Core.Path.{_≡_, sym, ap, _∙_, subst}
+use mathlib.Core.Bool.{Bool, true, not, _&&_}
 use mathlib.Core.List.{List, _++_}
-use lib.ListN.{length, getD, set, length-set}
-use lib.Seq.{getD-set-same, getD-set-other}
-use lib.Dec.{eqb, leb, ltb}
-use borrow.Author.Tests.{eqb-true, eqb-false}
+use lib.ListN.{length, getD, set}
+use lib.Dec.{eqb, ltb}
 use Rattle.record.specs.Rows.{keep}
 use Rattle.record.specs.Record.{pageOf, applied, onPage, ownedBy, committed, wellFormed}
 use Rattle.table.proofs.Laws.{Wide}
-use Rattle.rules.specs.Lent.{Lent, sizeOf, pagesOf, framesOf, roomOf, spanOf, orderOf, entryAt, entriesOf, onlineOf, inFrame, frameOf, pageIn}
+use Rattle.rules.specs.Lent.{Lent, pagesOf, framesOf, orderOf, entryAt, entriesOf, onlineOf, inFrame, frameOf, pageIn}
 use Rattle.rules.specs.Steps.{owned, others, framesFreed, aborted}
 use Rattle.rules.specs.Sound.{every}
-use Rattle.rules.proofs.Every.{every-set}
-use Rattle.onlinecheck.proofs.Rows.{every-imp}
 use Rattle.onlinecheck.proofs.Laws.{formed-page}
-use Rattle.durable.proofs.Laws.{ranged}
-use Rattle.redo.proofs.Loose.{_≅_, ≅-keep, ≅-every}
+use Rattle.redo.proofs.Loose.{_≅_, ≅-keep}
 use Rattle.redo.proofs.View.{keep-append}
 use Rattle.redo.proofs.Numbered.{keep-others-all, numberedFrom-committed}
 use Rattle.seats.proofs.Loops.{judgedEntries, judged-length, seated-abort, abort-dirty, abort-rows, abort-stays}
 use Rattle.readback.proofs.Seen.{livesOf}
 use Rattle.readback.proofs.Lost.{entry-whole, reads-aborted}
 use Rattle.history.specs.Past.{Past, aborts}
-use Rattle.history.proofs.Right.{Ground, LostRight, Right, rowsOf, openOf, openRow, aboveStamp}
-use Rattle.history.proofs.Tested.{every-append, every-keep}
-use Rattle.history.proofs.Soundly.{open-facts}
-use Rattle.history.proofs.Restarts.{rows-below}
+use Rattle.history.proofs.Right.{Ground, LostRight, Right, rowsOf, openOf, aboveStamp}
 use Rattle.history.proofs.Settle.{settle}
+use Rattle.history.proofs.Tested.{every-keep}
+use Rattle.history.proofs.Facts.{done-paged, open-every, ranges, online-each}
 use Rattle.history.proofs.Pasts.{past-abort, open-abort}
+use Rattle.history.proofs.Carried.{lost-ended}
 
 -- the page of each online record is one of the store's
-pub online-below : {g : Ground} {done : List (List ℕ)} {h : Past} {s : Lent} → Right g done h s → every (λ (r : List ℕ). ltb (pageOf r) (pagesOf s)) (onlineOf s) ≡ true
+online-below : {g : Ground} {done : List (List ℕ)} {h : Past} {s : Lent} → Right g done h s → every (λ (r : List ℕ). ltb (pageOf r) (pagesOf s)) (onlineOf s) ≡ true
 online-below {g} {done} {h} {s} r =
     ap (λ (n : ℕ). every (λ (q : List ℕ). ltb (pageOf q) n) (onlineOf s)) (r .durable .pages)
-    ∙ ≅-every below (r .lost .online-is)
-    ∙ every-append below (keep (aboveStamp (s .durable .marks)) (rowsOf g done)) (openOf h) (rows-below g done (s .durable .marks) (r .past .done-wide) (r .past .formed))
-    (formed-page (g .size) (g .pages) (openOf h) (every-imp (openRow g (h .live)) (wellFormed (g .size) (g .pages)) (λ q e. open-facts g (h .live) q e .formed) (openOf h) (r .past .open-rows)))
-  where
-    below : List ℕ → Bool
-    below q = ltb (pageOf q) (g .pages)
-
--- the live set without the owner's number
-live-ended : (x y : ℕ) (lives : List ℕ) (b : Bool) → 1 ≤ x → x ≤ 32 → 1 ≤ y → length lives ≡ 32 → eqb (getD lives (y - 1) 0) 1 ≡ b → eqb (getD (set lives (x - 1) 0) (y - 1) 0) 1 ≡ (not (eqb y x) && b)
-live-ended x y lives b p q m n e = go (eqb y x) refl
-  where
-    go : (t : Bool) → eqb y x ≡ t → eqb (getD (set lives (x - 1) 0) (y - 1) 0) 1 ≡ (not t && b)
-    go true k =
-        let z : y ≡ x = eqb-true y x k in
-        ap (λ (i : ℕ). eqb (getD (set lives (x - 1) 0) (i - 1) 0) 1) z ∙ ap (λ (v : ℕ). eqb v 1) (getD-set-same lives (x - 1) 0 0 (omega arith))
-    go false k = ap (λ (v : ℕ). eqb v 1) (getD-set-other lives (x - 1) (y - 1) 0 0 (λ z. eqb-false y x k (omega arith))) ∙ e
+    ∙ online-each r (λ (q : List ℕ). ltb (pageOf q) (g .pages)) (done-paged (r .past)) (formed-page (g .size) (g .pages) (openOf h) (open-every (r .past) (wellFormed (g .size) (g .pages)) (λ q f. f .formed)))
 
 -- the lost part, as lists: a page that stays in its frame had no record of the owner's
 module _ (g : Ground) (done opened : List (List ℕ)) (live : ℕ → Bool) (frames : ℕ) (marks stored pool order lives entries : List ℕ) (online : List (List ℕ)) (x : ℕ) (tables : List ℕ)
-    (l : LostRight g done opened live frames marks stored pool order lives entries online) (p : 1 ≤ x) (q : x ≤ 32) where
+    (l : LostRight g done opened live frames marks stored pool order lives entries online) (p : 1 ≤ x) where
   abbrev other : List ℕ → Bool
   other r = not (ownedBy x r)
 
   lost-aborted : Wide 14 done → every (λ (r : List ℕ). ltb (pageOf r) (g .pages)) online ≡ true → ((i : ℕ) → i < g .pages → getD tables (entryAt frames i) 0 ≡ getD entries i 0)
-      → LostRight g done (keep other opened) (λ (y : ℕ). not (eqb y x) && live y) frames marks stored pool (framesFreed frames tables (keep (ownedBy x) online) order) (set lives (x - 1) 0)
+      → LostRight g done (keep other opened) live frames marks stored pool (framesFreed frames tables (keep (ownedBy x) online) order) lives
       (judgedEntries (keep other online) (keep (ownedBy x) online) entries) (keep other online)
   lost-aborted w b t =
       record {
@@ -69,9 +49,9 @@ module _ (g : Ground) (done opened : List (List ℕ)) (live : ℕ → Bool) (fra
             (ap (λ (n : ℕ). every (λ (r : List ℕ). ltb (pageOf r) n) mine) (l .entries-length) ∙ every-keep (ownedBy x) (λ (r : List ℕ). ltb (pageOf r) (g .pages)) online b)
             (λ i h. t i (omega (arith, l .entries-length)));
         entries-length = judged-length rest mine entries ∙ l .entries-length;
-        lives-length = length-set lives (x - 1) 0 ∙ l .lives-length;
-        lives-bits = every-set (λ (n : ℕ). leb n 1) lives (x - 1) 0 (l .lives-bits) refl;
-        alive = λ y m n. live-ended x y lives (live y) p q m (l .lives-length) (l .alive y m n);
+        lives-length = l .lives-length;
+        lives-bits = l .lives-bits;
+        alive = l .alive;
         dirty = λ i h. abort-dirty x i online entries (inside i h) (l .dirty i h);
         online-is = subst (λ (m : List (List ℕ)). rest ≅ m) parted (≅-keep other (l .online-is));
         frame = framed;
@@ -106,12 +86,12 @@ module _ (g : Ground) (done opened : List (List ℕ)) (live : ℕ → Bool) (fra
 pub keeps-abort : {g : Ground} {done : List (List ℕ)} {h : Past} {s : Lent} (x : ℕ) → 1 ≤ x → x ≤ 32 → Right g done h s → Right g done (aborts h x) (aborted s x .lent)
 unfolding aborted aborts
 keeps-abort {g} {done} {h} {s} x a b r =
-    settle (reads-aborted s x (r .whole) (ranged (sizeOf s) (pagesOf s) (framesOf s) (roomOf s) (spanOf s) (r .durable .range) .room-most) a b (online-below r))
+    settle (reads-aborted s x (r .whole) (ranges (r .durable) .room-most) a b (online-below r))
     (past-abort (r .past) x a) (r .durable)
     (subst (λ (o : List (List ℕ)). LostRight g done o (λ (y : ℕ). not (eqb y x) && h .live y) (framesOf s) (s .durable .marks) (s .durable .stored) (s .lost .pool)
     (framesFreed (framesOf s) (s .lost .tables) (owned s x) (orderOf s)) (set (livesOf s) (x - 1) 0) (judgedEntries (others s x) (owned s x) (entriesOf s)) (others s x))
     (sym (open-abort h x))
-    (lost-aborted g done (openOf h) (h .live) (framesOf s) (s .durable .marks) (s .durable .stored) (s .lost .pool) (orderOf s) (livesOf s) (entriesOf s) (onlineOf s) x (s .lost .tables)
-    (r .lost) a b (r .past .done-wide)
+    (lost-aborted g done (openOf h) (λ (y : ℕ). not (eqb y x) && h .live y) (framesOf s) (s .durable .marks) (s .durable .stored) (s .lost .pool) (orderOf s) (set (livesOf s) (x - 1) 0) (entriesOf s) (onlineOf s) x (s .lost .tables)
+    (lost-ended (r .lost) x a b) a (r .past .done-wide)
     (ap (λ (n : ℕ). every (λ (q : List ℕ). ltb (pageOf q) n) (onlineOf s)) (sym (r .durable .pages)) ∙ online-below r)
     (λ i k. entry-whole s i (r .whole) (omega (arith, r .durable .pages)))))

@@ -1,109 +1,48 @@
 -- Begin and evict keep what is right: begin changes one live byte, evict one entry and the use order.
-use Prim.Native.Nat.{ℕ, _-_, _%_, _≤_, _<_}
+use Prim.Native.Nat.{ℕ, _%_, _≤_, _<_}
 use native.Mathlib.Omega.{arith}
 use mathlib.Core.Path.{_≡_, refl, sym, ap, _∙_, subst}
-use mathlib.Core.Bool.{Bool, true, false, cond, _||_, false≢true}
+use mathlib.Core.Bool.{Bool, true, cond, false≢true}
 use mathlib.Core.List.{List}
-use lib.ListN.{length, getD, set, length-set}
-use lib.Seq.{getD-set-same, getD-set-other}
-use lib.Dec.{eqb, leb}
-use borrow.Author.Tests.{eqb-true, eqb-false}
+use lib.ListN.{getD, set}
+use lib.Dec.{eqb}
 use Rattle.record.specs.Rows.{any}
 use Rattle.record.specs.Record.{onPage}
 use Rattle.order.specs.Order.{without}
-use Rattle.rules.specs.Lent.{Lent, pagesOf, orderOf, entryOf, entriesOf, onlineOf, inFrame, frameOf, isDirty, pageIn}
+use Rattle.rules.specs.Lent.{Lent, pagesOf, entryOf, inFrame, frameOf, isDirty}
 use Rattle.rules.specs.Steps.{freedOf, begun, evicted}
-use Rattle.rules.proofs.Every.{every-set}
-use Rattle.rules.proofs.Needed.{evicted-dirty}
 use Rattle.seats.proofs.Seated.{Seated}
 use Rattle.seats.proofs.Places.{left-none, seated-leave}
-use Rattle.readback.proofs.Seen.{livesOf, Reads}
-use Rattle.readback.proofs.Lost.{entry-reads, entry-whole, reads-begun, reads-evicted}
+use Rattle.readback.proofs.Lost.{entry-whole, reads-begun, reads-evicted}
 use Rattle.history.specs.Past.{Past, begins}
 use Rattle.history.proofs.Right.{Ground, LostRight, Right}
 use Rattle.history.proofs.Settle.{settle}
 use Rattle.history.proofs.Pasts.{past-begin}
+use Rattle.history.proofs.Carried.{lost-begun, lost-entry}
 
-module _ {g : Ground} {done opened : List (List ℕ)} {live : ℕ → Bool} {frames : ℕ} {marks stored pool order lives entries : List ℕ} {online : List (List ℕ)} (l : LostRight g done opened live frames marks stored pool order lives entries online) where
-  -- the live byte of x is 1 then, and the other live bytes are as they were
-  alive-begun : (x : ℕ) → 1 ≤ x → x ≤ 32 → (y : ℕ) → 1 ≤ y → y ≤ 32 → eqb (getD (set lives (x - 1) 1) (y - 1) 0) 1 ≡ (eqb y x || live y)
-  alive-begun x m n y a b = go (eqb y x) refl
-    where
-      go : (t : Bool) → eqb y x ≡ t → eqb (getD (set lives (x - 1) 1) (y - 1) 0) 1 ≡ (t || live y)
-      go true e =
-          let i : y - 1 ≡ x - 1 = ap (λ (z : ℕ). z - 1) (eqb-true y x e) in
-          let k : x - 1 < length lives = omega (arith, l .lives-length) in
-          ap (λ (z : ℕ). eqb (getD (set lives (x - 1) 1) z 0) 1) i ∙ ap (λ (z : ℕ). eqb z 1) (getD-set-same lives (x - 1) 1 0 k)
-      go false e =
-          let d : y - 1 ≡ x - 1 → ⊥ = λ q. eqb-false y x e (omega arith) in
-          ap (λ (z : ℕ). eqb z 1) (getD-set-other lives (x - 1) (y - 1) 1 0 d) ∙ l .alive y a b
+-- evict of page p, whose entry is e: "clean becomes absent, dirty becomes evicted"
+module _ {g : Ground} {done opened : List (List ℕ)} {live : ℕ → Bool} {frames : ℕ} {marks stored pool order lives entries : List ℕ} {online : List (List ℕ)} (l : LostRight g done opened live frames marks stored pool order lives entries online) (p e : ℕ) (m : p < g .pages) (k : e ≡ getD entries p 0) where
+  evicted-seated : inFrame e ≡ true → Seated frames (set entries p (e % 2)) (without (frameOf e) order)
+  evicted-seated i =
+      let w : Seated frames (set entries p (e % 2)) (freedOf (getD entries p 0) order) = seated-leave (l .seated) p (e % 2) (omega (arith, l .entries-length)) (omega arith) in
+      let f : freedOf (getD entries p 0) order ≡ without (frameOf e) order = ap (λ (x : ℕ). freedOf x order) (sym k) ∙ ap (λ (t : Bool). cond t (without (frameOf e) order) order) i in
+      subst (λ (o : List ℕ). Seated frames (set entries p (e % 2)) o) f w
 
-  -- begin: "makes the number live"
-  lost-begin : (x : ℕ) → 1 ≤ x → x ≤ 32 → LostRight g done opened (λ (y : ℕ). eqb y x || live y) frames marks stored pool order (set lives (x - 1) 1) entries online
-  lost-begin x m n =
-      record {
-        seated = l .seated;
-        entries-length = l .entries-length;
-        lives-length = length-set lives (x - 1) 1 ∙ l .lives-length;
-        lives-bits = every-set (λ (b : ℕ). leb b 1) lives (x - 1) 1 (l .lives-bits) refl;
-        alive = λ y a b. alive-begun x m n y a b;
-        dirty = l .dirty;
-        online-is = l .online-is;
-        frame = l .frame;
-      }
+  -- it is as dirty as it was
+  dirty-still : isDirty (e % 2) ≡ any (onPage p) online
+  dirty-still = let z : e % 2 % 2 ≡ e % 2 = omega arith in ap (λ (x : ℕ). eqb x 1) z ∙ ap (λ (x : ℕ). isDirty x) k ∙ l .dirty p m
 
-  -- evict of page p, whose entry is e: "clean becomes absent, dirty becomes evicted", and the other entries are as they were
-  module _ (p e : ℕ) (m : p < g .pages) (k : e ≡ getD entries p 0) (d : isDirty (getD (set entries p (e % 2)) p 0) ≡ isDirty e) where
-    here : getD (set entries p (e % 2)) p 0 ≡ e % 2
-    here = getD-set-same entries p (e % 2) 0 (omega (arith, l .entries-length))
-
-    dirty-left : (q : ℕ) → q < g .pages → isDirty (getD (set entries p (e % 2)) q 0) ≡ any (onPage q) online
-    dirty-left q n = go (eqb q p) refl
-      where
-        go : (t : Bool) → eqb q p ≡ t → isDirty (getD (set entries p (e % 2)) q 0) ≡ any (onPage q) online
-        go true z = rw (eqb-true q p z) (d ∙ ap (λ (x : ℕ). isDirty x) k ∙ l .dirty p m)
-        go false z = ap (λ (x : ℕ). isDirty x) (getD-set-other entries p q (e % 2) 0 (eqb-false q p z)) ∙ l .dirty q n
-
-    -- a page that is in a frame then was there before
-    evicted-stays : (q : ℕ) → inFrame (getD (set entries p (e % 2)) q 0) ≡ true → getD (set entries p (e % 2)) q 0 ≡ getD entries q 0
-    evicted-stays q i = go (eqb q p) refl
-      where
-        go : (t : Bool) → eqb q p ≡ t → getD (set entries p (e % 2)) q 0 ≡ getD entries q 0
-        go true z = absurd (false≢true (sym (left-none e) ∙ ap (λ (x : ℕ). inFrame x) (sym here) ∙ ap (λ (x : ℕ). inFrame (getD (set entries p (e % 2)) x 0)) (sym (eqb-true q p z)) ∙ i))
-        go false z = getD-set-other entries p q (e % 2) 0 (eqb-false q p z)
-
-    evicted-seated : inFrame e ≡ true → Seated frames (set entries p (e % 2)) (without (frameOf e) order)
-    evicted-seated i =
-        let w : Seated frames (set entries p (e % 2)) (freedOf (getD entries p 0) order) = seated-leave (l .seated) p (e % 2) (omega (arith, l .entries-length)) (omega arith) in
-        let f : freedOf (getD entries p 0) order ≡ without (frameOf e) order = ap (λ (x : ℕ). freedOf x order) (sym k) ∙ ap (λ (t : Bool). cond t (without (frameOf e) order) order) i in
-        subst (λ (o : List ℕ). Seated frames (set entries p (e % 2)) o) f w
-
-    lost-evict : inFrame e ≡ true → LostRight g done opened live frames marks stored pool (without (frameOf e) order) lives (set entries p (e % 2)) online
-    lost-evict i =
-        record {
-          seated = evicted-seated i;
-          entries-length = length-set entries p (e % 2) ∙ l .entries-length;
-          lives-length = l .lives-length;
-          lives-bits = l .lives-bits;
-          alive = l .alive;
-          dirty = dirty-left;
-          online-is = l .online-is;
-          frame = λ q n j.
-              let z : getD (set entries p (e % 2)) q 0 ≡ getD entries q 0 = evicted-stays q j in
-              ap (λ (x : ℕ). pageIn (g .size) (frameOf x) pool) z ∙ l .frame q n (ap (λ (x : ℕ). inFrame x) (sym z) ∙ j);
-        }
+  lost-evict : inFrame e ≡ true → LostRight g done opened live frames marks stored pool (without (frameOf e) order) lives (set entries p (e % 2)) online
+  lost-evict i = lost-entry l p (e % 2) m (evicted-seated i) (l .online-is) dirty-still (λ z. absurd (false≢true (sym (left-none e) ∙ z))) (λ q n. refl) (λ q h n. refl) (λ q h n f. refl)
 
 -- begin keeps what is right
 pub keeps-begin : {g : Ground} {done : List (List ℕ)} {h : Past} {s : Lent} (x : ℕ) → 1 ≤ x → x ≤ 32 → Right g done h s → Right g done (begins h x) (begun s x .lent)
 unfolding begun begins
-keeps-begin {g} {done} {h} {s} x m n r = settle (reads-begun s x (r .whole) m n) (past-begin (r .past) x) (r .durable) (lost-begin (r .lost) x m n)
+keeps-begin {g} {done} {h} {s} x m n r = settle (reads-begun s x (r .whole) m n) (past-begin (r .past) x) (r .durable) (lost-begun (r .lost) x m n)
 
 -- evict keeps what is right: "Nothing is written", so a page that stays in its frame holds what it held
 pub keeps-evict : {g : Ground} {done : List (List ℕ)} {h : Past} {s : Lent} (p : ℕ) → p < pagesOf s → inFrame (entryOf s p) ≡ true → Right g done h s → Right g done h (evicted s p .lent)
 unfolding evicted
 keeps-evict {g} {s = s} p m f r =
     let n : p < g .pages = omega (arith, r .durable .pages) in
-    let w : Reads (evicted s p .lent) (without (frameOf (entryOf s p)) (orderOf s)) (livesOf s) (set (entriesOf s) p (entryOf s p % 2)) (onlineOf s) = reads-evicted s p (r .whole) m in
-    let d : isDirty (getD (set (entriesOf s) p (entryOf s p % 2)) p 0) ≡ isDirty (entryOf s p) =
-    ap (λ (e : ℕ). isDirty e) (sym (entry-reads w p m)) ∙ evicted-dirty s p (omega (arith, r .whole .areas .tables)) in
-    settle w (r .past) (r .durable) (lost-evict (r .lost) p (entryOf s p) n (entry-whole s p (r .whole) m) d f)
+    settle (reads-evicted s p (r .whole) m) (r .past) (r .durable) (lost-evict (r .lost) p (entryOf s p) n (entry-whole s p (r .whole) m) f)

@@ -1,14 +1,14 @@
 -- The first j steps of a checkpoint keep what is right, whichever j.
-use Prim.Native.Nat.{ℕ, zero, suc, _+_, _≤_, _<_}
+use Prim.Native.Nat.{ℕ, zero, suc, _≤_, _<_}
 use native.Mathlib.Omega.{arith}
-use mathlib.Core.Path.{_≡_, refl, sym, ap, _∙_, subst}
+use mathlib.Core.Path.{_≡_, refl, sym, _∙_, subst}
 use mathlib.Core.Bool.{Bool, true, false, cond}
-use mathlib.Core.List.{List, []}
+use mathlib.Core.List.{List}
 use lib.Dec.{leb}
 use borrow.Author.Tests.{leb-true}
 use Rattle.word.specs.Word.{num}
 use Rattle.rules.specs.Lent.{Lent, pagesOf}
-use Rattle.rules.specs.Steps.{Left, left, due, compacted, compactStep, closed, afterPages, checkpointed}
+use Rattle.rules.specs.Steps.{left, due, compacted, compactStep, closed, afterPages, checkpointed}
 use Rattle.compact.proofs.Shapes.{fixed-step}
 use Rattle.history.specs.Past.{Past}
 use Rattle.history.specs.Run.{afterSteps}

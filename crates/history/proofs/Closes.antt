@@ -1,5 +1,5 @@
 -- Close keeps what is right: no record is dropped that a stored page lacks, and restart will pass over none of these.
-use Prim.Native.Nat.{ℕ, _+_, _*_, _-_, _≤_, _<_}
+use Prim.Native.Nat.{ℕ, _+_, _-_, _≤_, _<_}
 use native.Mathlib.Omega.{arith}
 use mathlib.Core.Path.{_≡_, refl, sym, ap, _∙_, subst}
 use mathlib.Core.Logic.{_⊎_, inl, inr}
@@ -9,46 +9,30 @@ use lib.ListN.{length, drop}
 use lib.Seq.{drop-drop}
 use lib.Dec.{eqb, leb, ltb}
 use borrow.Author.Tests.{eq-eqb, ne-eqb, leb-true, le-leb, ltb-true}
-use Rattle.word.specs.Word.{num}
 use Rattle.record.specs.Rows.{keep}
 use Rattle.record.specs.Record.{pageOf, numberOf, committed, applied, onPage, committedOn, smallest}
-use Rattle.rules.specs.Lent.{Lent, pagesOf, framesOf, roomOf, spanOf, lastOf, closedOf, loggedOf, dirtyOf, firstOf, logOf, orderOf, entriesOf, onlineOf, pageIn}
-use Rattle.rules.specs.Sound.{every, between, inRange}
+use Rattle.rules.specs.Lent.{Lent, pagesOf, framesOf, roomOf, lastOf, closedOf, loggedOf, dirtyOf, firstOf, logOf, orderOf, entriesOf, onlineOf, pageIn}
+use Rattle.rules.specs.Sound.{every, between}
 use Rattle.rules.specs.Steps.{droppedBy, closed}
 use Rattle.rules.proofs.Extremes.{numberAtMost}
 use Rattle.rules.proofs.Needed.{dropped-below}
 use Rattle.onlinecheck.specs.Online.{pageBelow}
 use Rattle.onlinecheck.proofs.Rows.{and-both, every-imp}
-use Rattle.onlinecheck.proofs.Laws.{formed-page}
 use Rattle.redo.proofs.Loose.{_≅_}
 use Rattle.redo.proofs.Views.{keep-same-where}
-use Rattle.redo.proofs.Numbered.{numberedFrom-committed, numberedFrom-formed, numberedFrom-between}
+use Rattle.redo.proofs.Reader.{every-both}
 use Rattle.readback.proofs.Seen.{livesOf}
 use Rattle.readback.proofs.Marks.{marks-close, last-close, closed-close, logged-close, stamp-close, dirty-close}
 use Rattle.readback.proofs.Log.{log-close, log-zero-close, log-length-close}
 use Rattle.readback.proofs.Lost.{reads-closed}
 use Rattle.history.specs.Past.{Past}
-use Rattle.history.proofs.Tested.{and-in, or-right, every-two}
-use Rattle.history.proofs.Least.{online-all, kept-numbered, kept-from, least-within, lacked-from, lacked-dirty}
-use Rattle.history.proofs.Right.{Ground, DurableRight, LostRight, Right, rowsOf, uncommitted, openOf, aboveStamp, openRow}
-use Rattle.history.proofs.Soundly.{open-facts}
+use Rattle.history.proofs.Right.{Ground, DurableRight, LostRight, Right, rowsOf, openOf, aboveStamp}
 use Rattle.history.proofs.Settle.{settle}
-
--- the lost part is right by the stamps alone of the marks
-same-stamps : {g : Ground} {done opened : List (List ℕ)} {live : ℕ → Bool} {frames : ℕ} {marks stored pool order lives entries : List ℕ} {online : List (List ℕ)} (marks′ : List ℕ)
-    → keep (aboveStamp marks′) (rowsOf g done) ≡ keep (aboveStamp marks) (rowsOf g done)
-    → LostRight g done opened live frames marks stored pool order lives entries online → LostRight g done opened live frames marks′ stored pool order lives entries online
-same-stamps {opened = opened} {online = online} marks′ e l =
-    record {
-      seated = l .seated;
-      entries-length = l .entries-length;
-      lives-length = l .lives-length;
-      lives-bits = l .lives-bits;
-      alive = l .alive;
-      dirty = l .dirty;
-      online-is = subst (λ (k : List (List ℕ)). online ≅ k ++ opened) (sym e) (l .online-is);
-      frame = l .frame;
-    }
+use Rattle.history.proofs.Tested.{and-in}
+use Rattle.history.proofs.Facts.{done-paged, done-committed, open-unset, open-every, dirt-same, marks-long, logged-last, online-each}
+use Rattle.history.proofs.Known.{rows-last}
+use Rattle.history.proofs.Carried.{lost-restated}
+use Rattle.history.proofs.Least.{kept-numbered, kept-from, least-within, lacked-from, lacked-dirty}
 
 -- a row above its stamp, said by other words
 imply : (a b c : Bool) → (b ≡ true → c ≡ true) → (not a || b) ≡ true → (not a || c) ≡ true
@@ -69,49 +53,27 @@ module _ (g : Ground) (done : List (List ℕ)) (h : Past) (s : Lent) (r : Right 
   abbrev least : ℕ
   least = smallest 0 (keep committed (onlineOf s))
 
-  whole-marks : length (s .durable .marks) ≡ 12 + 8 * pagesOf s
-  whole-marks = r .durable .marks ∙ ap (λ (n : ℕ). 12 + 8 * n) (sym (r .durable .pages))
-
-  logged-last : loggedOf s ≤ lastOf s
-  logged-last = omega (arith, r .durable .logged-done, r .durable .last)
-
   small : loggedOf s ≤ 4294967295
-  small = omega (arith, logged-last, r .durable .bound)
+  small = omega (arith, logged-last (r .durable), r .durable .bound)
 
   below : (p : ℕ) → p < g .pages → p < pagesOf s
   below p k = omega (arith, r .durable .pages)
 
-  -- the committed updates as rows: on pages that there are, committed, numbered up to L
-  rows-paged : every (pageBelow (g .pages)) (rowsOf g done) ≡ true
-  rows-paged = formed-page (g .size) (g .pages) (rowsOf g done) (numberedFrom-formed (g .size) (g .pages) (g .base + 1) (r .past .done-wide) (r .past .formed))
-
-  rows-committed : every committed (rowsOf g done) ≡ true
-  rows-committed = numberedFrom-committed (g .base + 1) (r .past .done-wide)
-
-  rows-last : every (numberAtMost (lastOf s)) (rowsOf g done) ≡ true
-  rows-last =
-      every-imp (λ (q : List ℕ). leb 1 (numberOf q) && ltb (numberOf q) (lastOf s + 1)) (numberAtMost (lastOf s))
-      (λ q e. le-leb (numberOf q) (lastOf s) (omega (arith, ltb-true (numberOf q) (lastOf s + 1) (and-both (leb 1 (numberOf q)) (ltb (numberOf q) (lastOf s + 1)) e .1))))
-      (rowsOf g done) (numberedFrom-between 1 (lastOf s + 1) (g .base + 1) (r .past .done-wide) (omega arith) (omega (arith, r .durable .last)) (omega (arith, r .durable .bound)))
-
-  open-unset : every uncommitted (openOf h) ≡ true
-  open-unset = every-imp (openRow g (h .live)) uncommitted (λ q e. ap not (open-facts g (h .live) q e .owned)) (openOf h) (r .past .open-rows)
-
   -- where the updates that no stored page holds are numbered from `first` on, their numbers are from there to L
   to-last : (first : ℕ) → every (λ (q : List ℕ). not (above q) || leb first (numberOf q)) (rowsOf g done) ≡ true → every (λ (q : List ℕ). not (above q) || between first (numberOf q) (lastOf s)) (rowsOf g done) ≡ true
   to-last first k =
-      every-two (λ (q : List ℕ). not (above q) || leb first (numberOf q)) (numberAtMost (lastOf s)) (λ (q : List ℕ). not (above q) || between first (numberOf q) (lastOf s))
-      (λ q a b. both-then (above q) (leb first (numberOf q)) (leb (numberOf q) (lastOf s)) a b) (rowsOf g done) k rows-last
+      every-both (λ (q : List ℕ). not (above q) || leb first (numberOf q)) (numberAtMost (lastOf s)) (λ (q : List ℕ). not (above q) || between first (numberOf q) (lastOf s))
+      (λ q a b. both-then (above q) (leb first (numberOf q)) (leb (numberOf q) (lastOf s)) a b) (rowsOf g done) k (rows-last g done h s r)
 
   numbers-small : every (numberAtMost 4294967295) (onlineOf s) ≡ true
   numbers-small =
-      online-all above (rowsOf g done) (openOf h) (r .lost .online-is) (numberAtMost 4294967295)
-      (every-imp (numberAtMost (lastOf s)) (λ (q : List ℕ). not (above q) || numberAtMost 4294967295 q) (λ q e. or-right (not (above q)) (numberAtMost 4294967295 q) (le-leb (numberOf q) 4294967295 (omega (arith, leb-true (numberOf q) (lastOf s) e, r .durable .bound)))) (rowsOf g done) rows-last)
-      (every-imp (openRow g (h .live)) (numberAtMost 4294967295) (λ q e. le-leb (numberOf q) 4294967295 (omega (arith, open-facts g (h .live) q e .number))) (openOf h) (r .past .open-rows))
+      online-each r (numberAtMost 4294967295)
+      (every-imp (numberAtMost (lastOf s)) (numberAtMost 4294967295) (λ q e. le-leb (numberOf q) 4294967295 (omega (arith, leb-true (numberOf q) (lastOf s) e, r .durable .bound))) (rowsOf g done) (rows-last g done h s r))
+      (open-every (r .past) (numberAtMost 4294967295) (λ q f. le-leb (numberOf q) 4294967295 (omega (arith, f .number))))
 
   -- the smallest number of all: none, or one of the log's
   least-logged : (least ≡ 0) ⊎ ((firstOf s ≤ least) × (least ≤ lastOf s))
-  least-logged = least-within above (rowsOf g done) (openOf h) (r .lost .online-is) (firstOf s) (lastOf s) (omega arith) (to-last (firstOf s) (r .durable .needed)) open-unset committed (λ q e. e)
+  least-logged = least-within above (rowsOf g done) (openOf h) (r .lost .online-is) (firstOf s) (lastOf s) (omega arith) (to-last (firstOf s) (r .durable .needed)) (open-unset (r .past)) committed (λ q e. e)
 
   -- what is dropped: all of the log, or what is before that number
   dropped-all : least ≡ 0 → droppedBy s ≡ loggedOf s
@@ -129,65 +91,60 @@ module _ (g : Ground) (done : List (List ℕ)) (h : Past) (s : Lent) (r : Right 
       go (inl e) = omega (arith, dropped-all e)
       go (inr e) =
           let d : droppedBy s ≡ least - firstOf s = dropped-before (omega (arith, e .0)) in
-          omega (arith, d, e .0, e .1, logged-last)
+          omega (arith, d, e .0, e .1, logged-last (r .durable))
 
   -- L stays, K becomes L, the log begins behind what is dropped
   last-same : lastOf after ≡ lastOf s
-  last-same = last-close s whole-marks (r .durable .bound) small
+  last-same = last-close s (marks-long (r .durable)) (r .durable .bound) small
 
   closed-is : closedOf after ≡ lastOf s
-  closed-is = closed-close s whole-marks (r .durable .bound) small
+  closed-is = closed-close s (marks-long (r .durable)) (r .durable .bound) small
 
   logged-is : loggedOf after ≡ loggedOf s - droppedBy s
-  logged-is = logged-close s whole-marks (r .durable .bound) small
+  logged-is = logged-close s (marks-long (r .durable)) (r .durable .bound) small
 
   first-is : firstOf after ≡ firstOf s + droppedBy s
-  first-is = omega (arith, dropped-few, logged-last, last-same, logged-is)
+  first-is = omega (arith, dropped-few, logged-last (r .durable), last-same, logged-is)
 
   -- what no stored page holds is online, and no record is dropped that is still online: so it is still in the log
   needed-after : every (λ (q : List ℕ). not (above q) || leb (firstOf after) (numberOf q)) (rowsOf g done) ≡ true
   needed-after =
       ap (λ (n : ℕ). every (λ (q : List ℕ). not (above q) || leb n (numberOf q)) (rowsOf g done)) first-is
-      ∙ lacked-from above (rowsOf g done) (openOf h) (r .lost .online-is) rows-committed (firstOf s + droppedBy s)
+      ∙ lacked-from above (rowsOf g done) (openOf h) (r .lost .online-is) (done-committed (r .past)) (firstOf s + droppedBy s)
       (dropped-below s
-      (kept-numbered above (rowsOf g done) (openOf h) (r .lost .online-is) (firstOf s) (lastOf s) (omega arith) (to-last (firstOf s) (r .durable .needed)) open-unset committed (λ q e. e))
-      (kept-from above (rowsOf g done) (openOf h) (r .lost .online-is) (firstOf s) (lastOf s) (omega arith) (to-last (firstOf s) (r .durable .needed)) open-unset committed (λ q e. e)))
+      (kept-numbered above (rowsOf g done) (openOf h) (r .lost .online-is) (firstOf s) (lastOf s) (omega arith) (to-last (firstOf s) (r .durable .needed)) (open-unset (r .past)) committed (λ q e. e))
+      (kept-from above (rowsOf g done) (openOf h) (r .lost .online-is) (firstOf s) (lastOf s) (omega arith) (to-last (firstOf s) (r .durable .needed)) (open-unset (r .past)) committed (λ q e. e)))
 
   -- a page's dirty number is none, or one of the log's
   dirty-is : (p : ℕ) → p < g .pages → dirtyOf after p ≡ smallest 0 (keep (committedOn p) (onlineOf s))
-  dirty-is p k = dirty-close s whole-marks (r .durable .bound) small p (below p k) numbers-small
+  dirty-is p k = dirty-close s (marks-long (r .durable)) (r .durable .bound) small p (below p k) numbers-small
 
   dirty-after : (p : ℕ) → p < g .pages → (dirtyOf after p ≡ 0) ⊎ ((firstOf after ≤ dirtyOf after p) × (dirtyOf after p ≤ closedOf after))
-  dirty-after p k = go (least-within above (rowsOf g done) (openOf h) (r .lost .online-is) (firstOf after) (lastOf s) (omega arith) (to-last (firstOf after) needed-after) open-unset (committedOn p) (λ q e. and-both (eqb (pageOf q) p) (committed q) e .1))
-    where
-      lowest : ℕ
-      lowest = smallest 0 (keep (committedOn p) (onlineOf s))
-
-      go : (lowest ≡ 0) ⊎ ((firstOf after ≤ lowest) × (lowest ≤ lastOf s)) → (dirtyOf after p ≡ 0) ⊎ ((firstOf after ≤ dirtyOf after p) × (dirtyOf after p ≤ closedOf after))
-      go (inl e) = inl (dirty-is p k ∙ e)
-      go (inr e) = let d : dirtyOf after p ≡ lowest = dirty-is p k in inr (omega (arith, d, e .0), omega (arith, d, e .1, closed-is))
+  dirty-after p k =
+      dirt-same refl (dirty-is p k) closed-is
+      (least-within above (rowsOf g done) (openOf h) (r .lost .online-is) (firstOf after) (lastOf s) (omega arith) (to-last (firstOf after) needed-after) (open-unset (r .past)) (committedOn p) (λ q e. and-both (eqb (pageOf q) p) (committed q) e .1))
 
   -- the stamps stay, so the same rows are above them
   above-same : (q : List ℕ) → pageBelow (g .pages) q ≡ true → aboveStamp (after .durable .marks) q ≡ above q
-  above-same q e = ap (λ (n : ℕ). ltb n (numberOf q)) (stamp-close s whole-marks (r .durable .bound) small (pageOf q) (below (pageOf q) (ltb-true (pageOf q) (g .pages) e)))
+  above-same q e = ap (λ (n : ℕ). ltb n (numberOf q)) (stamp-close s (marks-long (r .durable)) (r .durable .bound) small (pageOf q) (below (pageOf q) (ltb-true (pageOf q) (g .pages) e)))
 
   lacked-same : keep (aboveStamp (after .durable .marks)) (rowsOf g done) ≡ keep above (rowsOf g done)
-  lacked-same = keep-same-where (pageBelow (g .pages)) (aboveStamp (after .durable .marks)) above above-same (rowsOf g done) rows-paged
+  lacked-same = keep-same-where (pageBelow (g .pages)) (aboveStamp (after .durable .marks)) above above-same (rowsOf g done) (done-paged (r .past))
 
   -- a test of the rows above their stamps, by the stamps after
   restamped : (c : List ℕ → Bool) → every (λ (q : List ℕ). not (above q) || c q) (rowsOf g done) ≡ true → every (λ (q : List ℕ). not (aboveStamp (after .durable .marks) q) || c q) (rowsOf g done) ≡ true
   restamped c k =
-      every-two (pageBelow (g .pages)) (λ (q : List ℕ). not (above q) || c q) (λ (q : List ℕ). not (aboveStamp (after .durable .marks) q) || c q)
-      (λ q a b. ap (λ (t : Bool). not t || c q) (above-same q a) ∙ b) (rowsOf g done) rows-paged k
+      every-both (pageBelow (g .pages)) (λ (q : List ℕ). not (above q) || c q) (λ (q : List ℕ). not (aboveStamp (after .durable .marks) q) || c q)
+      (λ q a b. ap (λ (t : Bool). not t || c q) (above-same q a) ∙ b) (rowsOf g done) (done-paged (r .past)) k
 
   -- restart passes over none of them: the page of each has a dirty number
   entered-after : every (λ (q : List ℕ). not (above q) || not (leb (numberOf q) (closedOf after) && eqb (dirtyOf after (pageOf q)) 0)) (rowsOf g done) ≡ true
   entered-after =
-      every-two (pageBelow (g .pages)) (λ (q : List ℕ). not (above q) || leb 1 (smallest 0 (keep (committedOn (pageOf q)) (onlineOf s))))
+      every-both (pageBelow (g .pages)) (λ (q : List ℕ). not (above q) || leb 1 (smallest 0 (keep (committedOn (pageOf q)) (onlineOf s))))
       (λ (q : List ℕ). not (above q) || not (leb (numberOf q) (closedOf after) && eqb (dirtyOf after (pageOf q)) 0))
       (λ q a b. imply (above q) (leb 1 (smallest 0 (keep (committedOn (pageOf q)) (onlineOf s)))) (not (leb (numberOf q) (closedOf after) && eqb (dirtyOf after (pageOf q)) 0)) (tell q a) b)
-      (rowsOf g done) rows-paged
-      (lacked-dirty above (rowsOf g done) (openOf h) (r .lost .online-is) (firstOf s) (lastOf s) (omega arith) (to-last (firstOf s) (r .durable .needed)) open-unset rows-committed)
+      (rowsOf g done) (done-paged (r .past))
+      (lacked-dirty above (rowsOf g done) (openOf h) (r .lost .online-is) (firstOf s) (lastOf s) (omega arith) (to-last (firstOf s) (r .durable .needed)) (open-unset (r .past)) (done-committed (r .past)))
     where
       no-both : (a b : Bool) → b ≡ false → not (a && b) ≡ true
       no-both true b e = ap not e
@@ -199,60 +156,46 @@ module _ (g : Ground) (done : List (List ℕ)) (h : Past) (s : Lent) (r : Right 
           let e : 1 ≤ smallest 0 (keep (committedOn (pageOf q)) (onlineOf s)) = leb-true 1 (smallest 0 (keep (committedOn (pageOf q)) (onlineOf s))) b in
           no-both (leb (numberOf q) (closedOf after)) (eqb (dirtyOf after (pageOf q)) 0) (ne-eqb (dirtyOf after (pageOf q)) 0 (λ z. omega arith))
 
-  -- what format fixed, and the stored pages, stay
-  fixed-same : after .durable .fixed ≡ s .durable .fixed
-  unfolding closed
-  fixed-same = refl
-
-  stored-same : after .durable .stored ≡ s .durable .stored
-  unfolding closed
-  stored-same = refl
-
-  pages-same : pagesOf after ≡ pagesOf s
-  pages-same = ap (λ (f : List ℕ). num 4 f 4) fixed-same
-
-  span-same : spanOf after ≡ spanOf s
-  span-same = ap (λ (f : List ℕ). num 4 f 16) fixed-same
-
   log-after : logOf after ≡ drop (length done - loggedOf after) done
   log-after =
       let e : length done - loggedOf s + droppedBy s ≡ length done - loggedOf after = omega (arith, r .durable .logged-done, logged-is, dropped-few) in
-      log-close s whole-marks (r .durable .log) (r .durable .logged) (r .durable .bound) small
+      log-close s (marks-long (r .durable)) (r .durable .log) (r .durable .logged) (r .durable .bound) small
       ∙ ap (λ (l : List (List ℕ)). drop (droppedBy s) l) (r .durable .log-read)
       ∙ drop-drop (droppedBy s) (length done - loggedOf s) done
       ∙ ap (λ (n : ℕ). drop n done) e
 
   durable-after : DurableRight g done (after .durable)
+  unfolding closed
   durable-after =
       record {
-        fixed = ap length fixed-same ∙ r .durable .fixed;
-        range = ap (λ (f : List ℕ). inRange (num 4 f 0) (num 4 f 4) (num 4 f 8) (num 4 f 12) (num 4 f 16)) fixed-same ∙ r .durable .range;
-        size = ap (λ (f : List ℕ). num 4 f 0) fixed-same ∙ r .durable .size;
-        pages = pages-same ∙ r .durable .pages;
-        marks = marks-close s whole-marks (r .durable .bound) small ∙ r .durable .marks;
-        log = log-length-close s whole-marks (r .durable .log) (r .durable .logged) (r .durable .bound) small ∙ r .durable .log ∙ ap (λ (n : ℕ). 14 * n) (sym span-same);
-        stored = ap length stored-same ∙ r .durable .stored;
+        fixed = r .durable .fixed;
+        range = r .durable .range;
+        size = r .durable .size;
+        pages = r .durable .pages;
+        marks = marks-close s (marks-long (r .durable)) (r .durable .bound) small ∙ r .durable .marks;
+        log = log-length-close s (marks-long (r .durable)) (r .durable .log) (r .durable .logged) (r .durable .bound) small ∙ r .durable .log;
+        stored = r .durable .stored;
         last = last-same ∙ r .durable .last;
         bound = omega (arith, last-same, r .durable .bound);
-        logged = omega (arith, logged-is, span-same, r .durable .logged);
+        logged = omega (arith, logged-is, r .durable .logged);
         logged-done = omega (arith, logged-is, r .durable .logged-done);
         log-read = log-after;
-        log-zero = log-zero-close s whole-marks (r .durable .log) (r .durable .logged) (r .durable .bound) small;
-        stamps = λ p k. omega (arith, stamp-close s whole-marks (r .durable .bound) small p (below p k), last-same, r .durable .stamps p k);
+        log-zero = log-zero-close s (marks-long (r .durable)) (r .durable .log) (r .durable .logged) (r .durable .bound) small;
+        stamps = λ p k. omega (arith, stamp-close s (marks-long (r .durable)) (r .durable .bound) small p (below p k), last-same, r .durable .stamps p k);
         closed = omega (arith, closed-is, last-same);
         dirty = dirty-after;
         first = omega (arith, closed-is, last-same);
         needed = restamped (λ (q : List ℕ). leb (firstOf after) (numberOf q)) needed-after;
         entered = restamped (λ (q : List ℕ). not (leb (numberOf q) (closedOf after) && eqb (dirtyOf after (pageOf q)) 0)) entered-after;
-        fits = subst (λ (l : List (List ℕ)). length l ≤ roomOf after) (sym lacked-same) (subst (λ (f : List ℕ). length (keep above (rowsOf g done)) ≤ num 4 f 12) (sym fixed-same) (r .durable .fits));
-        page = λ p k. ap (λ (l : List ℕ). pageIn (g .size) p l) stored-same ∙ r .durable .page p k
+        fits = subst (λ (l : List (List ℕ)). length l ≤ roomOf s) (sym lacked-same) (r .durable .fits);
+        page = λ p k. r .durable .page p k
             ∙ ap (λ (l : List (List ℕ)). applied l (pageIn (g .size) p (g .start)))
-            (sym (keep-same-where (pageBelow (g .pages)) (λ (q : List ℕ). onPage p q && not (aboveStamp (after .durable .marks) q)) (λ (q : List ℕ). onPage p q && not (above q)) (λ q e. ap (λ (t : Bool). onPage p q && not t) (above-same q e)) (rowsOf g done) rows-paged));
+            (sym (keep-same-where (pageBelow (g .pages)) (λ (q : List ℕ). onPage p q && not (aboveStamp (after .durable .marks) q)) (λ (q : List ℕ). onPage p q && not (above q)) (λ q e. ap (λ (t : Bool). onPage p q && not t) (above-same q e)) (rowsOf g done) (done-paged (r .past))));
       }
 
   lost-after : LostRight g done (openOf h) (h .live) (framesOf after) (after .durable .marks) (after .durable .stored) (after .lost .pool) (orderOf s) (livesOf s) (entriesOf s) (onlineOf s)
   unfolding closed
-  lost-after = same-stamps (after .durable .marks) lacked-same (r .lost)
+  lost-after = lost-restated (r .lost) (subst (λ (k : List (List ℕ)). onlineOf s ≅ k ++ openOf h) (sym lacked-same) (r .lost .online-is)) (λ p. refl) (λ p page. refl)
 
 -- close keeps what is right
 pub keeps-close : {g : Ground} {done : List (List ℕ)} {h : Past} {s : Lent} → Right g done h s → Right g done h (closed s .lent)

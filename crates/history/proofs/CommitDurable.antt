@@ -1,9 +1,8 @@
 -- The durable part after a commit: L and the log's count go on by the records that were numbered, the log has them at its end,
 -- and no stored page has them, as they are numbered above every stamp.
-use Prim.Native.Nat.{ℕ, _+_, _*_, _-_, _≤_, _<_}
+use Prim.Native.Nat.{ℕ, _+_, _-_, _≤_, _<_}
 use native.Mathlib.Omega.{arith}
 use mathlib.Core.Path.{_≡_, sym, ap, _∙_}
-use mathlib.Core.Logic.{_⊎_, inl, inr}
 use mathlib.Core.Bool.{Bool, true, not, _&&_, _||_, and-false}
 use mathlib.Core.List.{List, _++_, map, append-nil}
 use lib.ListN.{length, drop, length-append, length-map}
@@ -14,21 +13,23 @@ use Rattle.word.specs.Word.{num}
 use Rattle.record.specs.Rows.{keep}
 use Rattle.record.specs.Record.{pageOf, numberOf, bodyOf, applied, onPage, ownedBy, wellFormed}
 use Rattle.table.proofs.Laws.{Wide, wide-keep, wide-bodies}
-use Rattle.rules.specs.Lent.{Lent, sizeOf, pagesOf, framesOf, roomOf, spanOf, lastOf, closedOf, loggedOf, firstOf, stampAt, dirtyOf, logOf, onlineOf, pageIn}
+use Rattle.rules.specs.Lent.{Lent, roomOf, spanOf, lastOf, closedOf, loggedOf, firstOf, stampAt, dirtyOf, logOf, onlineOf, pageIn}
 use Rattle.rules.specs.Steps.{owned, committing}
 use Rattle.rules.specs.Sound.{every}
+use Rattle.rules.proofs.Every.{or-right}
 use Rattle.onlinecheck.proofs.Rows.{and-both, every-imp}
 use Rattle.onlinecheck.proofs.Laws.{formed-page}
-use Rattle.durable.proofs.Laws.{ranged}
 use Rattle.redo.proofs.View.{keep-append}
 use Rattle.redo.proofs.Views.{keep-same, keep-all, keep-none}
 use Rattle.redo.proofs.Loose.{numberedFrom, ≅-length}
 use Rattle.redo.proofs.Numbered.{numberedFrom-append, numberedFrom-length, numberedFrom-formed, numberedFrom-from}
+use Rattle.redo.proofs.Reader.{every-both}
 use Rattle.readback.proofs.Marks.{marks-commit, last-commit, closed-commit, logged-commit, stamp-commit, dirty-commit}
 use Rattle.readback.proofs.Log.{log-commit, log-zero-commit, log-length-commit}
 use Rattle.history.specs.Past.{Past}
-use Rattle.history.proofs.Tested.{or-right, every-append, every-two}
 use Rattle.history.proofs.Right.{Ground, Right, DurableRight, rowsOf, openOf, aboveStamp}
+use Rattle.history.proofs.Tested.{every-append}
+use Rattle.history.proofs.Facts.{dirt-same, ranges, marks-long}
 
 -- of records numbered on from L: each number is above L
 abbrev after : ℕ → List ℕ → Bool
@@ -44,7 +45,7 @@ numbered-after last {l} w m = every-imp (λ (r : List ℕ). leb (last + 1) (numb
 numbered-above : (size pages last : ℕ) (marks : List ℕ) → ((p : ℕ) → p < pages → num 4 marks (stampAt p) ≤ last)
     → {l : List (List ℕ)} → Wide 14 l → every (wellFormed size pages) l ≡ true → last + 1 + length l ≤ 4294967296 → every (aboveStamp marks) (numberedFrom (last + 1) l) ≡ true
 numbered-above size pages last marks stamps {l} w f m =
-    every-two (λ (r : List ℕ). ltb (pageOf r) pages) (after last) (aboveStamp marks) at (numberedFrom (last + 1) l)
+    every-both (λ (r : List ℕ). ltb (pageOf r) pages) (after last) (aboveStamp marks) at (numberedFrom (last + 1) l)
     (formed-page size pages (numberedFrom (last + 1) l) (numberedFrom-formed size pages (last + 1) w f)) (numbered-after last w m)
   where
     at : (r : List ℕ) → ltb (pageOf r) pages ≡ true → after last r ≡ true → aboveStamp marks r ≡ true
@@ -85,30 +86,27 @@ module _ {g : Ground} {done : List (List ℕ)} {h : Past} {s : Lent} (x : ℕ) (
   more-length : length more ≡ length (owned s x)
   more-length = length-map (owned s x) bodyOf
 
-  marks-long : length (s .durable .marks) ≡ 12 + 8 * pagesOf s
-  marks-long = r .durable .marks ∙ ap (λ (n : ℕ). 12 + 8 * n) (sym (r .durable .pages))
-
   logs : loggedOf s + length (owned s x) ≤ 4294967295
-  logs = omega (arith, ranged (sizeOf s) (pagesOf s) (framesOf s) (roomOf s) (spanOf s) (r .durable .range) .span-most)
+  logs = omega (arith, ranges (r .durable) .span-most)
 
   -- the marks that a commit moves on, and the first number of the log, which it leaves
   last-on : lastOf (committing s x .lent) ≡ lastOf s + length (owned s x)
-  last-on = last-commit s marks-long x numbers logs
+  last-on = last-commit s (marks-long (r .durable)) x numbers logs
 
   logged-on : loggedOf (committing s x .lent) ≡ loggedOf s + length (owned s x)
-  logged-on = logged-commit s marks-long x numbers logs
+  logged-on = logged-commit s (marks-long (r .durable)) x numbers logs
 
   closed-left : closedOf (committing s x .lent) ≡ closedOf s
-  closed-left = closed-commit s marks-long x numbers logs
+  closed-left = closed-commit s (marks-long (r .durable)) x numbers logs
 
   first-left : firstOf (committing s x .lent) ≡ firstOf s
   first-left = omega (arith, last-on, logged-on)
 
   dirty-left : (p : ℕ) → dirtyOf (committing s x .lent) p ≡ dirtyOf s p
-  dirty-left = dirty-commit s marks-long x numbers logs
+  dirty-left = dirty-commit s (marks-long (r .durable)) x numbers logs
 
   above-left : (b : List ℕ) → aboveStamp after-marks b ≡ aboveStamp (s .durable .marks) b
-  above-left b = ap (λ (n : ℕ). ltb n (numberOf b)) (stamp-commit s marks-long x numbers logs (pageOf b))
+  above-left b = ap (λ (n : ℕ). ltb n (numberOf b)) (stamp-commit s (marks-long (r .durable)) x numbers logs (pageOf b))
 
   -- what is committed afterwards: what was, then the owner's, numbered on from L
   newer : List (List ℕ)
@@ -142,17 +140,10 @@ module _ {g : Ground} {done : List (List ℕ)} {h : Past} {s : Lent} (x : ℕ) (
   log-end =
       let d : ℕ = length done - loggedOf s in
       let e : d ≡ length (done ++ more) - loggedOf (committing s x .lent) = omega (arith, length-append done more, more-length, logged-on, r .durable .logged-done) in
-      log-commit s marks-long (r .durable .log) (r .durable .logged) x (r .whole .wide) numbers logs
+      log-commit s (marks-long (r .durable)) (r .durable .log) (r .durable .logged) x (r .whole .wide) numbers logs
       ∙ ap (λ (l : List (List ℕ)). l ++ more) (r .durable .log-read)
       ∙ sym (drop-append-le d done more (omega arith))
       ∙ ap (λ (n : ℕ). drop n (done ++ more)) e
-
-  dirty-between : (p : ℕ) → p < g .pages → (dirtyOf (committing s x .lent) p ≡ 0) ⊎ ((firstOf (committing s x .lent) ≤ dirtyOf (committing s x .lent) p) × (dirtyOf (committing s x .lent) p ≤ closedOf (committing s x .lent)))
-  dirty-between p m = go (r .durable .dirty p m)
-    where
-      go : (dirtyOf s p ≡ 0) ⊎ ((firstOf s ≤ dirtyOf s p) × (dirtyOf s p ≤ closedOf s)) → (dirtyOf (committing s x .lent) p ≡ 0) ⊎ ((firstOf (committing s x .lent) ≤ dirtyOf (committing s x .lent) p) × (dirtyOf (committing s x .lent) p ≤ closedOf (committing s x .lent)))
-      go (inl e) = inl (dirty-left p ∙ e)
-      go (inr e) = inr (omega (arith, e .0, first-left, dirty-left p), omega (arith, e .1, closed-left, dirty-left p))
 
   room-left : length (keep (aboveStamp after-marks) (rowsOf g (done ++ more))) ≤ roomOf s
   unfolding newer
@@ -199,18 +190,18 @@ module _ {g : Ground} {done : List (List ℕ)} {h : Past} {s : Lent} (x : ℕ) (
         range = r .durable .range;
         size = r .durable .size;
         pages = r .durable .pages;
-        marks = marks-commit s marks-long x numbers logs ∙ r .durable .marks;
-        log = log-length-commit s marks-long (r .durable .log) (r .durable .logged) x (r .whole .wide) numbers logs space ∙ r .durable .log;
+        marks = marks-commit s (marks-long (r .durable)) x numbers logs ∙ r .durable .marks;
+        log = log-length-commit s (marks-long (r .durable)) (r .durable .log) (r .durable .logged) x (r .whole .wide) numbers logs space ∙ r .durable .log;
         stored = r .durable .stored;
         last = omega (arith, last-on, r .durable .last, length-append done more, more-length);
         bound = omega (arith, last-on);
         logged = omega (arith, logged-on);
         logged-done = omega (arith, logged-on, r .durable .logged-done, length-append done more, more-length);
         log-read = log-end;
-        log-zero = log-zero-commit s marks-long (r .durable .log) (r .durable .logged) x (r .whole .wide) numbers logs;
-        stamps = λ (p : ℕ) (m : p < g .pages). omega (arith, stamp-commit s marks-long x numbers logs p, r .durable .stamps p m, last-on);
+        log-zero = log-zero-commit s (marks-long (r .durable)) (r .durable .log) (r .durable .logged) x (r .whole .wide) numbers logs;
+        stamps = λ (p : ℕ) (m : p < g .pages). omega (arith, stamp-commit s (marks-long (r .durable)) x numbers logs p, r .durable .stamps p m, last-on);
         closed = omega (arith, closed-left, r .durable .closed, last-on);
-        dirty = dirty-between;
+        dirty = λ (p : ℕ) (m : p < g .pages). dirt-same first-left (dirty-left p) closed-left (r .durable .dirty p m);
         first = omega (arith, first-left, closed-left, r .durable .first);
         needed = needed-more;
         entered = entered-more;

@@ -1,21 +1,18 @@
 -- Commit keeps what is right: what it numbers is all that was ever committed, and more at its end.
-use Prim.Native.Nat.{ℕ, _+_, _-_, _≤_, _<_}
+use Prim.Native.Nat.{ℕ, _+_, _-_, _≤_}
 use native.Mathlib.Omega.{arith}
 use mathlib.Core.Path.{_≡_, refl, sym, ap, _∙_, subst}
-use mathlib.Core.Bool.{Bool, true, false, not, _&&_, _||_}
+use mathlib.Core.Bool.{Bool, true, not, _&&_, _||_}
 use mathlib.Core.List.{List, _++_, map, append-assoc}
-use lib.ListN.{length, getD, set, length-set}
-use lib.Seq.{drop-append-seam, getD-set-same, getD-set-other}
-use lib.Dec.{eqb, leb}
-use borrow.Author.Tests.{eqb-true, eqb-false}
+use lib.ListN.{length, set}
+use lib.Seq.{drop-append-seam}
+use lib.Dec.{eqb}
 use Rattle.record.specs.Rows.{keep, any}
 use Rattle.record.specs.Record.{committed, bodyOf, onPage, ownedBy, numberRows, wellFormed}
 use Rattle.table.proofs.Laws.{Wide, keep-length}
-use Rattle.rules.specs.Lent.{Lent, framesOf, spanOf, lastOf, loggedOf, orderOf, entriesOf, onlineOf, inFrame, pageIn}
+use Rattle.rules.specs.Lent.{Lent, framesOf, spanOf, lastOf, loggedOf, orderOf, entriesOf, onlineOf}
 use Rattle.rules.specs.Steps.{owned, committing}
 use Rattle.rules.specs.Sound.{every, pairs, apart}
-use Rattle.rules.proofs.Every.{every-set}
-use Rattle.onlinecheck.proofs.Rows.{every-imp}
 use Rattle.redo.proofs.View.{SameBodies, none, one, body-page, numberRows-bodies, page-numberRows}
 use Rattle.redo.proofs.Loose.{_≅_, then, numberedFrom, ≅-equal, ≅-number}
 use Rattle.redo.proofs.Numbered.{numberedFrom-committed}
@@ -23,12 +20,13 @@ use Rattle.redo.proofs.Commits.{commit-loose}
 use Rattle.readback.proofs.Seen.{livesOf}
 use Rattle.readback.proofs.Lost.{reads-committing}
 use Rattle.history.specs.Past.{Past, commits}
-use Rattle.history.proofs.Right.{Ground, Right, PastRight, LostRight, rowsOf, openOf, uncommitted, openRow, aboveStamp}
+use Rattle.history.proofs.Right.{Ground, Right, PastRight, LostRight, rowsOf, openOf, uncommitted, aboveStamp}
 use Rattle.history.proofs.Settle.{settle}
-use Rattle.history.proofs.Pasts.{open-commit, owned-made, past-commit-of}
 use Rattle.history.proofs.Tested.{every-drop, every-keep}
-use Rattle.history.proofs.Soundly.{open-facts}
+use Rattle.history.proofs.Facts.{open-unset}
+use Rattle.history.proofs.Pasts.{open-commit, owned-made, past-commit}
 use Rattle.history.proofs.Known.{last-read, owned-read}
+use Rattle.history.proofs.Carried.{lost-ended, lost-restated}
 use Rattle.history.proofs.CommitDurable.{above-commit, durable-commit}
 
 -- rows with the same bodies are on the same pages
@@ -39,7 +37,7 @@ bodies-any p (one {r} {s} {l} {m} e h) = λ i. eqb (body-page r s e i) p || bodi
 
 -- the lost part, as lists: an owner's records `more` are numbered from k on, and no stored page has them
 module _ {g : Ground} {done opened : List (List ℕ)} {live : ℕ → Bool} {frames : ℕ} {marks stored pool order lives entries : List ℕ} {online : List (List ℕ)}
-    (l : LostRight g done opened live frames marks stored pool order lives entries online) (x k : ℕ) (low : 1 ≤ x) (high : x ≤ 32)
+    (l : LostRight g done opened live frames marks stored pool order lives entries online) (x k : ℕ) (low : 1 ≤ x)
     (done-wide : Wide 14 done) (open-wide : Wide 19 opened) (unsettled : every uncommitted opened ≡ true) (parted : pairs apart opened ≡ true)
     (marks′ : List ℕ) (more : List (List ℕ)) (mine : more ≡ map bodyOf (keep (ownedBy x) opened))
     (above : keep (aboveStamp marks′) (rowsOf g (done ++ more)) ≡ keep (aboveStamp marks) (rowsOf g done) ++ numberedFrom k more) where
@@ -58,31 +56,8 @@ module _ {g : Ground} {done opened : List (List ℕ)} {live : ℕ → Bool} {fra
       ∙ sym (append-assoc before (numberedFrom k more) others)
       ∙ ap (λ (m : List (List ℕ)). m ++ others) (sym above))))
 
-  -- the owner is live no more
-  alive-but : (y : ℕ) → 1 ≤ y → y ≤ 32 → eqb (getD (set lives (x - 1) 0) (y - 1) 0) 1 ≡ (not (eqb y x) && live y)
-  alive-but y p q = go (eqb y x) refl
-    where
-      go : (t : Bool) → eqb y x ≡ t → eqb (getD (set lives (x - 1) 0) (y - 1) 0) 1 ≡ (not t && live y)
-      go true e =
-          let f : y - 1 ≡ x - 1 = ap (λ (n : ℕ). n - 1) (eqb-true y x e) in
-          ap (λ (i : ℕ). eqb (getD (set lives (x - 1) 0) i 0) 1) f
-          ∙ ap (λ (b : ℕ). eqb b 1) (getD-set-same lives (x - 1) 0 0 (omega (arith, l .lives-length)))
-      go false e =
-          let d = eqb-false y x e in
-          ap (λ (b : ℕ). eqb b 1) (getD-set-other lives (x - 1) (y - 1) 0 0 (λ f. d (omega arith))) ∙ l .alive y p q
-
-  lost-commit : LostRight g (done ++ more) others (λ (y : ℕ). not (eqb y x) && live y) frames marks′ stored pool order (set lives (x - 1) 0) entries (numberRows x k online)
-  lost-commit =
-      record {
-        seated = l .seated;
-        entries-length = l .entries-length;
-        lives-length = length-set lives (x - 1) 0 ∙ l .lives-length;
-        lives-bits = every-set (λ (b : ℕ). leb b 1) lives (x - 1) 0 (l .lives-bits) refl;
-        alive = alive-but;
-        dirty = λ (p : ℕ) (m : p < g .pages). l .dirty p m ∙ sym (bodies-any p (numberRows-bodies x k online));
-        online-is = online-numbered;
-        frame = λ (p : ℕ) (m : p < g .pages) (f : inFrame (getD entries p 0) ≡ true). l .frame p m f ∙ sym (page-numberRows p x k online (pageIn (g .size) p stored));
-      }
+  lost-commit : LostRight g (done ++ more) others live frames marks′ stored pool order lives entries (numberRows x k online)
+  lost-commit = lost-restated l online-numbered (λ p. sym (bodies-any p (numberRows-bodies x k online))) (λ p page. sym (page-numberRows p x k online page))
 
 -- "Commit numbers the owner's k records L+1 to L+k in table order, appends them to the log, clears the owner, ends the transaction."
 pub keeps-commit : {g : Ground} {done : List (List ℕ)} {h : Past} {s : Lent} (x : ℕ) → 1 ≤ x → x ≤ 32 → loggedOf s + length (owned s x) ≤ spanOf s → lastOf s + length (owned s x) ≤ 4294967295 → Right g done h s → Right g (done ++ map bodyOf (owned s x)) (commits h x) (committing s x .lent)
@@ -91,7 +66,7 @@ keeps-commit {g} {done} {h} {s} x low high space numbers r =
     settle (reads-committing s x (r .whole) low high) past (durable-commit x r space numbers formed known)
     (subst (λ (o : List (List ℕ)). LostRight g (done ++ more) o (λ (y : ℕ). not (eqb y x) && h .live y) (framesOf s) marks′ (s .durable .stored) (s .lost .pool) (orderOf s) (set (livesOf s) (x - 1) 0) (entriesOf s) (numberRows x (lastOf s + 1) (onlineOf s)))
     (sym (open-commit (r .past) x low))
-    (lost-commit (r .lost) x (lastOf s + 1) low high (r .past .done-wide) (r .past .open-wide) unsettled (r .past .apart) marks′ more (ap (λ (l : List (List ℕ)). map bodyOf l) mine) (above-commit x r space numbers formed known)))
+    (lost-commit (lost-ended (r .lost) x low high) x (lastOf s + 1) low (r .past .done-wide) (r .past .open-wide) (open-unset (r .past)) (r .past .apart) marks′ more (ap (λ (l : List (List ℕ)). map bodyOf l) mine) (above-commit x r space numbers formed known)))
   where
     more : List (List ℕ)
     more = map bodyOf (owned s x)
@@ -103,7 +78,7 @@ keeps-commit {g} {done} {h} {s} x low high space numbers r =
     mine = owned-read g done h s r x low ∙ owned-made h x low
 
     past : PastRight g (done ++ map bodyOf (owned s x)) (commits h x)
-    past = past-commit-of (r .past) x low (owned s x) mine (omega (arith, last-read g done h s r))
+    past = past-commit (r .past) x low (owned s x) mine (omega (arith, last-read g done h s r))
 
     formed : every (wellFormed (g .size) (g .pages)) (map bodyOf (owned s x)) ≡ true
     formed =
@@ -112,6 +87,3 @@ keeps-commit {g} {done} {h} {s} x low high space numbers r =
 
     known : length (owned s x) ≤ length (openOf h)
     known = omega (arith, ap (λ (l : List (List ℕ)). length l) mine, keep-length (ownedBy x) (openOf h))
-
-    unsettled : every uncommitted (openOf h) ≡ true
-    unsettled = every-imp (openRow g (h .live)) uncommitted (λ (b : List ℕ) e. ap not (open-facts g (h .live) b e .owned)) (openOf h) (r .past .open-rows)

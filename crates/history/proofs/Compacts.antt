@@ -1,36 +1,32 @@
 -- Compact keeps what is right: the page's committed records are folded into its stored page, and its frame, if it keeps one, shows the same page.
-use Prim.Native.Nat.{ℕ, _+_, _-_, _≤_, _<_}
+use Prim.Native.Nat.{ℕ, _-_, _≤_, _<_}
 use native.Mathlib.Omega.{arith}
 use mathlib.Core.Path.{_≡_, refl, sym, ap, _∙_, subst}
 use mathlib.Core.Bool.{Bool, true, false, cond, not, _&&_, _||_, true≢false}
-use mathlib.Core.List.{List, [], _++_}
-use lib.ListN.{length, getD, set, length-set}
-use lib.Seq.{getD-set-same, getD-set-other}
-use lib.Dec.{eqb, leb, ltb}
-use borrow.Author.Tests.{leb-true, le-leb, ltb-true, eqb-true, eqb-false}
+use mathlib.Core.List.{List, _++_}
+use lib.ListN.{length, getD, set}
+use lib.Dec.{eqb, leb}
+use borrow.Author.Tests.{leb-true, eqb-true}
 use Rattle.record.specs.Rows.{keep, any}
-use Rattle.record.specs.Record.{numberOf, committed, applied, onPage, committedOn, smallest, greatest}
+use Rattle.record.specs.Record.{applied, onPage, committedOn, smallest, greatest}
 use Rattle.apply.proofs.Laws.{length-applied}
 use Rattle.table.proofs.Laws.{keep-length}
-use Rattle.rules.specs.Lent.{Durable, Lent, sizeOf, pagesOf, framesOf, roomOf, spanOf, lastOf, entryOf, entriesOf, orderOf, onlineOf, inFrame, frameOf, isDirty, cleanIn, pageIn}
-use Rattle.rules.specs.Sound.{every, pairs}
+use Rattle.rules.specs.Lent.{Durable, Lent, pagesOf, framesOf, lastOf, entryOf, entriesOf, orderOf, onlineOf, inFrame, frameOf, isDirty, cleanIn, pageIn}
 use Rattle.rules.specs.Steps.{freedOf, foldable, due, fromFrame, compactedPage, compactedEntry, compactedOrder, unfolded, compacted}
-use Rattle.rules.proofs.Extremes.{numberAtMost}
-use Rattle.onlinecheck.proofs.Rows.{and-both, every-imp}
-use Rattle.durable.proofs.Laws.{ranged}
+use Rattle.onlinecheck.proofs.Rows.{and-both}
 use Rattle.redo.proofs.Loose.{_≅_}
-use Rattle.redo.proofs.Views.{rising}
-use Rattle.redo.proofs.Numbered.{numberedFrom-committed, numberedFrom-from, numberedFrom-rising}
 use Rattle.seats.proofs.Seated.{Seated}
 use Rattle.seats.proofs.Places.{half-none, clean-frame, clean-not-dirty, seated-clean, seated-leave}
 use Rattle.readback.proofs.Pages.{page-length}
 use Rattle.readback.proofs.Seen.{livesOf}
 use Rattle.readback.proofs.Lost.{entry-whole, reads-compacted}
 use Rattle.history.specs.Past.{Past}
-use Rattle.history.proofs.Right.{Ground, DurableRight, LostRight, Right, rowsOf, uncommitted, openOf, openRow, aboveStamp}
+use Rattle.history.proofs.Right.{Ground, DurableRight, LostRight, Right, rowsOf, openOf, aboveStamp}
 use Rattle.history.proofs.Settle.{settle}
-use Rattle.history.proofs.Soundly.{open-facts}
-use Rattle.history.proofs.Folding.{Folds, stays, stays-page, stays-none, folds-all, stays-other, stays-any, folded-most, above-now, fewer-above, stays-now, page-now}
+use Rattle.history.proofs.Facts.{done-committed, done-rising, open-unset, ranges}
+use Rattle.history.proofs.Known.{rows-last}
+use Rattle.history.proofs.Carried.{lost-entry}
+use Rattle.history.proofs.Folding.{Folds, stays, stays-page, stays-none, folds-all, stays-other, folded-most, above-now, fewer-above, stays-now, page-now}
 use Rattle.history.proofs.Restamped.{restamped, stamp-here, stamp-other, page-here, page-there, restamped-right}
 
 module _ {g : Ground} {done opened : List (List ℕ)} {live : ℕ → Bool} {frames : ℕ} {marks stored pool order lives entries : List ℕ} {online : List (List ℕ)}
@@ -67,45 +63,7 @@ module _ {g : Ground} {done opened : List (List ℕ)} {live : ℕ → Bool} {fra
     with-entry : (e : ℕ) (o : List ℕ) → Seated frames (set entries p e) o → isDirty e ≡ any (onPage p) (keep (stays p) online)
         → (inFrame e ≡ true → pageIn (g .size) (frameOf e) pool ≡ applied (keep (onPage p) (keep (stays p) online)) (pageIn (g .size) p st))
         → LostRight g done opened live frames ms st pool o lives (set entries p e) (keep (stays p) online)
-    with-entry e o seat dirt shows =
-        record {
-          seated = seat;
-          entries-length = length-set entries p e ∙ l .entries-length;
-          lives-length = l .lives-length;
-          lives-bits = l .lives-bits;
-          alive = l .alive;
-          dirty = λ q h. dirty-at q h (eqb q p) refl;
-          online-is = is;
-          frame = λ q h. frame-at q h (eqb q p) refl;
-        }
-      where
-        at-page : (q : ℕ) → q ≡ p → getD (set entries p e) q 0 ≡ e
-        at-page q z = ap (λ (i : ℕ). getD (set entries p e) i 0) z ∙ getD-set-same entries p e 0 entry-there
-
-        at-other : (q : ℕ) → (q ≡ p → ⊥) → getD (set entries p e) q 0 ≡ getD entries q 0
-        at-other q n = getD-set-other entries p q e 0 n
-
-        dirty-at : (q : ℕ) → q < g .pages → (t : Bool) → eqb q p ≡ t → isDirty (getD (set entries p e) q 0) ≡ any (onPage q) (keep (stays p) online)
-        dirty-at q h true z =
-            let i : q ≡ p = eqb-true q p z in
-            ap (λ (x : ℕ). isDirty x) (at-page q i) ∙ dirt ∙ ap (λ (x : ℕ). any (onPage x) (keep (stays p) online)) (sym i)
-        dirty-at q h false z =
-            let n : q ≡ p → ⊥ = eqb-false q p z in
-            ap (λ (x : ℕ). isDirty x) (at-other q n) ∙ l .dirty q h ∙ sym (stays-any p q n online)
-
-        frame-at : (q : ℕ) → q < g .pages → (t : Bool) → eqb q p ≡ t → inFrame (getD (set entries p e) q 0) ≡ true
-            → pageIn (g .size) (frameOf (getD (set entries p e) q 0)) pool ≡ applied (keep (onPage q) (keep (stays p) online)) (pageIn (g .size) q st)
-        frame-at q h true z f =
-            let i : q ≡ p = eqb-true q p z in
-            ap (λ (x : ℕ). pageIn (g .size) (frameOf x) pool) (at-page q i)
-            ∙ shows (ap (λ (x : ℕ). inFrame x) (sym (at-page q i)) ∙ f)
-            ∙ ap (λ (x : ℕ). applied (keep (onPage x) (keep (stays p) online)) (pageIn (g .size) x st)) (sym i)
-        frame-at q h false z f =
-            let n : q ≡ p → ⊥ = eqb-false q p z in
-            ap (λ (x : ℕ). pageIn (g .size) (frameOf x) pool) (at-other q n)
-            ∙ l .frame q h (ap (λ (x : ℕ). inFrame x) (sym (at-other q n)) ∙ f)
-            ∙ ap (λ (rs : List (List ℕ)). applied rs (pageIn (g .size) q stored)) (sym (stays-other p q n online))
-            ∙ ap (λ (x : List ℕ). applied (keep (onPage q) (keep (stays p) online)) x) (sym (there q h n))
+    with-entry e o seat dirt shows = lost-entry l p e k seat is dirt shows (λ q n. stays-other p q n online) there (λ q h n f. refl)
 
     -- clean in its frame, which is the stored page
     kept-clean : whole ≡ true → inFrame entry ≡ true → LostRight g done opened live frames ms st pool order lives (set entries p (cleanIn (frameOf entry))) (keep (stays p) online)
@@ -149,31 +107,12 @@ module _ {g : Ground} {done : List (List ℕ)} {h : Past} {s : Lent} (r : Right 
   below : p < g .pages
   below = omega (arith, r .durable .pages)
 
-  -- the committed updates
-  all-committed : every committed (rowsOf g done) ≡ true
-  all-committed = numberedFrom-committed (g .base + 1) (r .past .done-wide)
-
-  numbers-fit : g .base + 1 + length done ≤ 4294967296
-  numbers-fit = omega (arith, r .durable .last, r .durable .bound)
-
-  rows-rising : pairs rising (rowsOf g done) ≡ true
-  rows-rising = numberedFrom-rising (g .base + 1) (r .past .done-wide) numbers-fit
-
-  rows-most : every (numberAtMost (lastOf s)) (rowsOf g done) ≡ true
-  rows-most =
-      every-imp (λ (x : List ℕ). leb (g .base + 1) (numberOf x) && ltb (numberOf x) (g .base + 1 + length done)) (numberAtMost (lastOf s))
-      (λ x e. le-leb (numberOf x) (lastOf s) (omega (arith, r .durable .last, ltb-true (numberOf x) (g .base + 1 + length done) (and-both (leb (g .base + 1) (numberOf x)) (ltb (numberOf x) (g .base + 1 + length done)) e .1))))
-      (rowsOf g done) (numberedFrom-from (g .base + 1) (r .past .done-wide) numbers-fit)
-
-  none-committed : every uncommitted (openOf h) ≡ true
-  none-committed = every-imp (openRow g (h .live)) uncommitted (λ x e. ap not (open-facts g (h .live) x e .owned)) (openOf h) (r .past .open-rows)
-
   -- the new stamp, and the page as it is written
   abbrev stamp : ℕ
   stamp = greatest 0 (foldable s p)
 
   stamp-most : stamp ≤ lastOf s
-  stamp-most = folded-most p (aboveStamp (s .durable .marks)) (rowsOf g done) (openOf h) (onlineOf s) all-committed none-committed (r .lost .online-is) (lastOf s) rows-most
+  stamp-most = folded-most p (aboveStamp (s .durable .marks)) (rowsOf g done) (openOf h) (onlineOf s) (done-committed (r .past)) (open-unset (r .past)) (r .lost .online-is) (lastOf s) (rows-last g done h s r)
 
   abbrev all : Bool
   all = eqb (length (foldable s p)) (length (keep (onPage p) (onlineOf s)))
@@ -198,8 +137,8 @@ module _ {g : Ground} {done : List (List ℕ)} {h : Past} {s : Lent} (r : Right 
   folds : Folds p (s .durable .marks) (after .marks) (rowsOf g done) (openOf h) (onlineOf s)
   folds =
       record {
-        all-committed = all-committed;
-        none-committed = none-committed;
+        all-committed = done-committed (r .past);
+        none-committed = open-unset (r .past);
         online-is = r .lost .online-is;
         some = some;
         here = stamp-here (r .durable) p stamp (compactedPage s p) below stamp-most page-long;
@@ -213,7 +152,7 @@ module _ {g : Ground} {done : List (List ℕ)} {h : Past} {s : Lent} (r : Right 
       (rw (above-now folds) (keep-length (λ (x : List ℕ). not (onPage p x)) (keep (aboveStamp (s .durable .marks)) (rowsOf g done))))
       (page-written
       ∙ ap (λ (x : List ℕ). applied (foldable s p) x) (r .durable .page p below)
-      ∙ page-now folds rows-rising (pageIn (g .size) p (g .start)))
+      ∙ page-now folds (done-rising (r .past)) (pageIn (g .size) p (g .start)))
 
   -- and the lost part
   compact-lost : LostRight g done (openOf h) (h .live) (framesOf s) (after .marks) (after .stored) (s .lost .pool) (compactedOrder s p) (livesOf s) (set (entriesOf s) p (compactedEntry s p)) (unfolded s p)
@@ -230,7 +169,7 @@ module _ {g : Ground} {done : List (List ℕ)} {h : Past} {s : Lent} (r : Right 
   compact-right : Right g done h (compacted s p .lent)
   unfolding compacted
   compact-right =
-      settle (reads-compacted s p (r .whole) (ranged (sizeOf s) (pagesOf s) (framesOf s) (roomOf s) (spanOf s) (r .durable .range) .room-most) m) (r .past) compact-durable compact-lost
+      settle (reads-compacted s p (r .whole) (ranges (r .durable) .room-most) m) (r .past) compact-durable compact-lost
 
 -- compact keeps what is right
 pub keeps-compact : {g : Ground} {done : List (List ℕ)} {h : Past} {s : Lent} (p minDel maxAge : ℕ) → p < pagesOf s → due s p minDel maxAge ≡ true → Right g done h s → Right g done h (compacted s p .lent)

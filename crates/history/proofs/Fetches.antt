@@ -4,9 +4,8 @@ use Prim.Native.Nat.{ℕ, _+_, _*_, _≤_, _<_, _^_}
 use native.Mathlib.Omega.{arith}
 use mathlib.Core.Path.{_≡_, refl, sym, ap, _∙_, subst}
 use mathlib.Core.Bool.{Bool, true, false, cond, not, _&&_, _||_, or-true, or-false, or-assoc, false≢true}
-use mathlib.Core.List.{List, [], _∷_, _++_, append-assoc}
-use lib.ListN.{length, getD, set, length-set}
-use lib.Seq.{getD-set-same, getD-set-other}
+use mathlib.Core.List.{List, [], _∷_, _++_, append-nil, append-assoc}
+use lib.ListN.{length, getD, set}
 use lib.Dec.{eqb, ltb}
 use borrow.Author.Tests.{eqb-true, eqb-false, eq-eqb, ne-eqb, lt-ltb, le-leb}
 use Rattle.record.specs.Rows.{keep, consIf, any}
@@ -14,12 +13,10 @@ use Rattle.record.specs.Record.{pageOf, offsetOf, lengthOf, ownerOf, committed,
 use Rattle.apply.proofs.Laws.{length-apply}
 use Rattle.order.specs.Order.{touched, frameFor}
 use Rattle.table.proofs.Laws.{length-rowOf}
-use Rattle.rules.specs.Lent.{Lent, sizeOf, pagesOf, framesOf, roomOf, spanOf, countOf, orderOf, entryOf, entriesOf, onlineOf, inFrame, frameOf, isDirty, dirtyIn, pageIn, withPage}
+use Rattle.rules.specs.Lent.{Lent, sizeOf, pagesOf, framesOf, roomOf, countOf, orderOf, entryOf, entriesOf, onlineOf, inFrame, frameOf, isDirty, dirtyIn, pageIn, withPage}
 use Rattle.rules.specs.Steps.{placed, placeOf, rebuilt, fetchedEntries, fetchedPool, readStep, updated}
 use Rattle.rules.specs.Calls.{clashes, held}
 use Rattle.rules.specs.Sound.{every, apart}
-use Rattle.durable.specs.Ranges.{Ranged}
-use Rattle.durable.proofs.Laws.{ranged}
 use Rattle.onlinecheck.proofs.Rows.{every-imp}
 use Rattle.redo.proofs.View.{applied-append, keep-append}
 use Rattle.redo.proofs.Views.{keep-none}
@@ -34,7 +31,9 @@ use Rattle.readback.proofs.Lost.{entry-whole, length-rebuilt, length-fetched-po
 use Rattle.history.specs.Past.{Past, updates}
 use Rattle.history.proofs.Right.{Ground, LostRight, Right, aboveStamp, rowsOf, openOf, openRow}
 use Rattle.history.proofs.Settle.{settle}
+use Rattle.history.proofs.Facts.{ranges, stored-long}
 use Rattle.history.proofs.Pasts.{open-update, past-update}
+use Rattle.history.proofs.Carried.{lost-entry}
 
 -- a page with no online record is the stored page
 applied-none : (online : List (List ℕ)) (p : ℕ) (page : List ℕ) → any (onPage p) online ≡ false → applied (keep (onPage p) online) page ≡ page
@@ -97,10 +96,6 @@ module _ {g : Ground} {done opened : List (List ℕ)} {live : ℕ → Bool} {fra
           frame = placed-holds;
         }
 
--- the ranges of what format fixed
-ranges : {g : Ground} {done : List (List ℕ)} {h : Past} {s : Lent} → Right g done h s → Ranged (sizeOf s) (pagesOf s) (framesOf s) (roomOf s) (spanOf s)
-ranges {s = s} r = ranged (sizeOf s) (pagesOf s) (framesOf s) (roomOf s) (spanOf s) (r .durable .range)
-
 -- fetch of page p
 module _ {g : Ground} {done : List (List ℕ)} {h : Past} {s : Lent} (p : ℕ) (m : p < pagesOf s) (r : Right g done h s) where
   there : p < g .pages
@@ -121,9 +116,7 @@ module _ {g : Ground} {done : List (List ℕ)} {h : Past} {s : Lent} (p : ℕ) (
       ∙ rebuilt-page (r .lost) p there
 
   rebuilt-length : length (rebuilt s p) ≡ sizeOf s
-  rebuilt-length =
-      let e : length (s .durable .stored) ≡ sizeOf s * pagesOf s = r .durable .stored ∙ ap (λ (n : ℕ). n * g .pages) (sym sized) ∙ ap (λ (n : ℕ). sizeOf s * n) (sym (r .durable .pages)) in
-      length-rebuilt s p e m
+  rebuilt-length = length-rebuilt s p (stored-long (r .durable)) m
 
   -- the frame that the page is in once it was fetched
   below : placeOf s p < framesOf s
@@ -131,7 +124,7 @@ module _ {g : Ground} {done : List (List ℕ)} {h : Past} {s : Lent} (p : ℕ) (
     where
       go : (b : Bool) → inFrame (entryOf s p) ≡ b → cond b (frameOf (entryOf s p)) (frameFor (framesOf s) (orderOf s)) < framesOf s
       go true i = rw entry (seated-below (r .lost .seated) p (among (r .lost) p there) (ap (λ (e : ℕ). inFrame e) (sym entry) ∙ i))
-      go false i = seated-frame (r .lost .seated) (ranges r .frames-least)
+      go false i = seated-frame (r .lost .seated) (ranges (r .durable) .frames-least)
 
   -- the lost part with page p in frame f, the latest used
   abbrev Fetched : ℕ → List ℕ → List ℕ → Type 0
@@ -179,48 +172,31 @@ module _ {g : Ground} {done : List (List ℕ)} {h : Past} {s : Lent} (p : ℕ) (
   unfolding readStep
   keeps-read = settle (reads-read s p (r .whole) order-fits below rebuilt-length) (r .past) (r .durable) (fetched-right .0)
 
--- one more row: what it adds to those of a page
+-- one more row
 any-last : (b : List ℕ → Bool) (l : List (List ℕ)) (r : List ℕ) → any b (l ++ (r ∷ [])) ≡ (any b l || b r)
 unfolding any
 any-last b [] r = or-false (b r)
 any-last b (x ∷ l) r = ap (λ (t : Bool). b x || t) (any-last b l r) ∙ sym (or-assoc (b x) (any b l) (b r))
 
-applied-last : (q : ℕ) (l : List (List ℕ)) (r page : List ℕ) → applied (keep (onPage q) (l ++ (r ∷ []))) page ≡ cond (onPage q r) (apply r (applied (keep (onPage q) l) page)) (applied (keep (onPage q) l) page)
-unfolding applied keep
-applied-last q l r page =
-    ap (λ (k : List (List ℕ)). applied k page) (keep-append (onPage q) l (r ∷ []))
-    ∙ applied-append (keep (onPage q) l) (consIf (onPage q r) r []) page ∙ go (onPage q r)
-  where
-    go : (t : Bool) → applied (consIf t r []) (applied (keep (onPage q) l) page) ≡ cond t (apply r (applied (keep (onPage q) l) page)) (applied (keep (onPage q) l) page)
-    go true = refl
-    go false = refl
-
 -- update of page p in its frame f: "applies, appends the record with its owner, and marks the page dirty"
 module _ {g : Ground} {done opened : List (List ℕ)} {live : ℕ → Bool} {frames : ℕ} {marks stored pool order lives entries : List ℕ} {online : List (List ℕ)} (l : LostRight g done opened live frames marks stored pool order lives entries online) (p f : ℕ) (m : p < g .pages) (i : inFrame (getD entries p 0) ≡ true) (at : frameOf (getD entries p 0) ≡ f) (long : length pool ≡ g .size * frames) (r : List ℕ) (on : pageOf r ≡ p) where
-  abbrev changed : List ℕ
-  changed = set entries p (dirtyIn f)
-
-  changed-here : getD changed p 0 ≡ dirtyIn f
-  changed-here = getD-set-same entries p (dirtyIn f) 0 (omega (arith, l .entries-length))
-
-  changed-there : (q : ℕ) → eqb q p ≡ false → getD changed q 0 ≡ getD entries q 0
-  changed-there q e = getD-set-other entries p q (dirtyIn f) 0 (eqb-false q p e)
-
   -- the row is one of page p and of no other
   row-here : onPage p r ≡ true
   row-here = eq-eqb (pageOf r) p on
 
-  row-else : (q : ℕ) → eqb q p ≡ false → onPage q r ≡ false
-  row-else q e = ne-eqb (pageOf r) q (λ z. eqb-false q p e (sym z ∙ on))
+  row-else : (q : ℕ) → (q ≡ p → ⊥) → onPage q r ≡ false
+  row-else q n = ne-eqb (pageOf r) q (λ z. n (sym z ∙ on))
 
-  updated-dirty : (q : ℕ) → q < g .pages → isDirty (getD changed q 0) ≡ any (onPage q) (online ++ (r ∷ []))
-  updated-dirty q n = go (eqb q p) refl ∙ sym (any-last (onPage q) online r)
-    where
-      go : (b : Bool) → eqb q p ≡ b → isDirty (getD changed q 0) ≡ (any (onPage q) online || onPage q r)
-      go true e =
-          rw (eqb-true q p e) (ap (λ (x : ℕ). isDirty x) changed-here ∙ dirty-dirty f ∙ sym (ap (λ (t : Bool). any (onPage p) online || t) row-here ∙ or-true (any (onPage p) online)))
-      go false e =
-          ap (λ (x : ℕ). isDirty x) (changed-there q e) ∙ l .dirty q n ∙ sym (ap (λ (t : Bool). any (onPage q) online || t) (row-else q e) ∙ or-false (any (onPage q) online))
+  kept-here : keep (onPage p) (online ++ (r ∷ [])) ≡ keep (onPage p) online ++ (r ∷ [])
+  unfolding keep
+  kept-here = keep-append (onPage p) online (r ∷ []) ∙ ap (λ (t : Bool). keep (onPage p) online ++ consIf t r []) row-here
+
+  kept-else : (q : ℕ) → (q ≡ p → ⊥) → keep (onPage q) (online ++ (r ∷ [])) ≡ keep (onPage q) online
+  unfolding keep
+  kept-else q n = keep-append (onPage q) online (r ∷ []) ∙ ap (λ (t : Bool). keep (onPage q) online ++ consIf t r []) (row-else q n) ∙ append-nil (keep (onPage q) online)
+
+  updated-dirty : isDirty (dirtyIn f) ≡ any (onPage p) (online ++ (r ∷ []))
+  updated-dirty = dirty-dirty f ∙ sym (any-last (onPage p) online r ∙ ap (λ (t : Bool). any (onPage p) online || t) row-here ∙ or-true (any (onPage p) online))
 
   below-frames : f < frames
   below-frames = rw (← at) (seated-below (l .seated) p (among l p m) i)
@@ -231,55 +207,32 @@ module _ {g : Ground} {done opened : List (List ℕ)} {live : ℕ → Bool} {fra
   page-full : length page ≡ g .size
   page-full = length-apply r (pageIn (g .size) f pool) ∙ page-length (g .size) frames pool long f below-frames
 
-  updated-holds : (q : ℕ) → q < g .pages → inFrame (getD changed q 0) ≡ true → pageIn (g .size) (frameOf (getD changed q 0)) (withPage (g .size) f pool page) ≡ applied (keep (onPage q) (online ++ (r ∷ []))) (pageIn (g .size) q stored)
-  updated-holds q n j = go (eqb q p) refl ∙ sym (applied-last q online r (pageIn (g .size) q stored))
-    where
-      now : ℕ → List ℕ
-      now e = pageIn (g .size) (frameOf e) (withPage (g .size) f pool page)
+  updated-shows : pageIn (g .size) (frameOf (dirtyIn f)) (withPage (g .size) f pool page) ≡ applied (keep (onPage p) (online ++ (r ∷ []))) (pageIn (g .size) p stored)
+  unfolding applied
+  updated-shows =
+      ap (λ (k : ℕ). pageIn (g .size) k (withPage (g .size) f pool page)) (dirty-frame f)
+      ∙ page-same (g .size) frames pool long f below-frames page page-full
+      ∙ ap (λ (x : List ℕ). apply r x) (ap (λ (k : ℕ). pageIn (g .size) k pool) (sym at) ∙ l .frame p m i)
+      ∙ sym (ap (λ (k : List (List ℕ)). applied k (pageIn (g .size) p stored)) kept-here ∙ applied-append (keep (onPage p) online) (r ∷ []) (pageIn (g .size) p stored))
 
-      was : ℕ → List ℕ
-      was x = applied (keep (onPage x) online) (pageIn (g .size) x stored)
+  -- another page's frame is another
+  updated-else : (q : ℕ) → q < g .pages → (q ≡ p → ⊥) → inFrame (getD entries q 0) ≡ true → pageIn (g .size) (frameOf (getD entries q 0)) (withPage (g .size) f pool page) ≡ pageIn (g .size) (frameOf (getD entries q 0)) pool
+  updated-else q n d j =
+      page-other (g .size) frames pool long f below-frames page page-full (frameOf (getD entries q 0)) (seated-below (l .seated) q (among l q n) j)
+      (λ y. seated-apart (l .seated) q p (among l q n) (among l p m) d j i (y ∙ sym at))
 
-      held-here : pageIn (g .size) f pool ≡ was p
-      held-here = ap (λ (k : ℕ). pageIn (g .size) k pool) (sym at) ∙ l .frame p m i
-
-      go : (b : Bool) → eqb q p ≡ b → now (getD changed q 0) ≡ cond (onPage q r) (apply r (was q)) (was q)
-      go true e =
-          rw (eqb-true q p e)
-          (ap (λ (x : ℕ). now x) changed-here
-          ∙ ap (λ (k : ℕ). pageIn (g .size) k (withPage (g .size) f pool page)) (dirty-frame f)
-          ∙ page-same (g .size) frames pool long f below-frames page page-full
-          ∙ ap (λ (x : List ℕ). apply r x) held-here
-          ∙ sym (ap (λ (t : Bool). cond t (apply r (was p)) (was p)) row-here))
-      go false e =
-          let z : getD changed q 0 ≡ getD entries q 0 = changed-there q e in
-          let k : inFrame (getD entries q 0) ≡ true = ap (λ (x : ℕ). inFrame x) (sym z) ∙ j in
-          let a : q < length entries = among l q n in
-          let d : frameOf (getD entries q 0) ≡ f → ⊥ = λ y. seated-apart (l .seated) q p a (among l p m) (eqb-false q p e) k i (y ∙ sym at) in
-          ap (λ (x : ℕ). now x) z
-          ∙ page-other (g .size) frames pool long f below-frames page page-full (frameOf (getD entries q 0)) (seated-below (l .seated) q a k) d
-          ∙ l .frame q n k
-          ∙ sym (ap (λ (t : Bool). cond t (apply r (was q)) (was q)) (row-else q e))
-
-  lost-update : LostRight g done (opened ++ (r ∷ [])) live frames marks stored (withPage (g .size) f pool page) order lives changed (online ++ (r ∷ []))
+  lost-update : LostRight g done (opened ++ (r ∷ [])) live frames marks stored (withPage (g .size) f pool page) order lives (set entries p (dirtyIn f)) (online ++ (r ∷ []))
   lost-update =
-      record {
-        seated = subst (λ (k : ℕ). Seated frames (set entries p (dirtyIn k)) order) at (seated-dirty (l .seated) p (among l p m) i);
-        entries-length = length-set entries p (dirtyIn f) ∙ l .entries-length;
-        lives-length = l .lives-length;
-        lives-bits = l .lives-bits;
-        alive = l .alive;
-        dirty = updated-dirty;
-        online-is = then (≅-before (r ∷ []) (l .online-is)) (≅-equal (append-assoc (keep (aboveStamp marks) (rowsOf g done)) opened (r ∷ [])));
-        frame = updated-holds;
-      }
+      lost-entry l p (dirtyIn f) m (subst (λ (k : ℕ). Seated frames (set entries p (dirtyIn k)) order) at (seated-dirty (l .seated) p (among l p m) i))
+      (then (≅-before (r ∷ []) (l .online-is)) (≅-equal (append-assoc (keep (aboveStamp marks) (rowsOf g done)) opened (r ∷ []))))
+      updated-dirty (λ z. updated-shows) kept-else (λ q n d. refl) updated-else
 
 -- update with any row of the history's kind that is apart from each open one
 update-right : {g : Ground} {done : List (List ℕ)} {h : Past} {s : Lent} (r : List ℕ) → pageOf r < pagesOf s → length r ≡ 19 → committed r ≡ false → openRow g (h .live) r ≡ true
     → every (λ (a : List ℕ). apart a r) (openOf h) ≡ true → countOf s < roomOf s → Right g done h s → Right g done (updates h r) (updated s r .lent)
 unfolding updated updates
 update-right {g} {done} {h} {s} r m long c o a room w =
-    settle (reads-updated s r (w .whole) long (omega arith) (ranges w .room-most) (order-fits p m w) (below p m w) (rebuilt-length p m w))
+    settle (reads-updated s r (w .whole) long (omega arith) (ranges (w .durable) .room-most) (order-fits p m w) (below p m w) (rebuilt-length p m w))
     (past-update (w .past) r long c o a) (w .durable)
     (subst (λ (k : List (List ℕ)). After k (sizeOf s)) (sym (open-update h r c)) (subst (λ (n : ℕ). After (openOf h ++ (r ∷ [])) n) (sym size) after))
   where
@@ -340,10 +293,10 @@ module _ {g : Ground} {done : List (List ℕ)} {h : Past} {s : Lent} (x p offset
   row = rowOf p offset w kind v x
 
   its-page : pageOf row ≡ p
-  its-page = row-page p offset w kind v x (omega (arith, ranges t .pages-most))
+  its-page = row-page p offset w kind v x (omega (arith, ranges (t .durable) .pages-most))
 
   its-offset : offsetOf row ≡ offset
-  its-offset = row-offset p offset w kind v x (omega (arith, ranges t .size-most))
+  its-offset = row-offset p offset w kind v x (omega (arith, ranges (t .durable) .size-most))
 
   its-length : lengthOf row ≡ w
   its-length = row-length p offset w kind v x

@@ -1,6 +1,6 @@
 -- What compact does to rows: a page's committed online records are folded into its stored page, and its new stamp is their greatest number.
 -- So no committed update of that page is above its stamp any more, and those of other pages are as before.
-use Prim.Native.Nat.{ℕ, suc, _+_, _≤_}
+use Prim.Native.Nat.{ℕ, _+_, _≤_}
 use native.Mathlib.Omega.{arith}
 use mathlib.Core.Path.{_≡_, refl, sym, ap, _∙_}
 use mathlib.Core.Bool.{Bool, true, false, not, _&&_, _||_, and-true, and-false}
@@ -20,26 +20,14 @@ use Rattle.redo.proofs.Order.{≈-picked}
 use Rattle.redo.proofs.Loose.{_≅_, then, ≅-equal, ≅-keep, ≅-free, ≅-every}
 use Rattle.redo.proofs.View.{keep-append}
 use Rattle.redo.proofs.Views.{rising, keep-keep, keep-same, keep-same-where, keep-both, keep-all, keep-none, stored-then-online}
-use Rattle.redo.proofs.Reader.{every-keep as every-kept-where}
-use Rattle.history.proofs.Tested.{every-keep}
+use Rattle.redo.proofs.Reader.{every-kept-where}
+use Rattle.seats.proofs.Loops.{any-kept}
 use Rattle.history.proofs.Right.{uncommitted, aboveStamp}
+use Rattle.history.proofs.Tested.{every-keep, picked-every}
 
 -- a page's committed records are gone, the others stay
 abbrev pub stays : ℕ → List ℕ → Bool
 stays p r = not (gone false 0 p r)
-
--- what all those pass that pass another test, said of every row
-every-where : (a c : List ℕ → Bool) (l : List (List ℕ)) → every c (keep a l) ≡ true → every (λ (r : List ℕ). not (a r) || c r) l ≡ true
-unfolding every keep
-every-where a c [] h = refl
-every-where a c (r ∷ l) h = pick (a r) h (every-where a c l)
-  where
-    rest : Bool
-    rest = every (λ (x : List ℕ). not (a x) || c x) l
-
-    pick : (t : Bool) → every c (consIf t r (keep a l)) ≡ true → (every c (keep a l) ≡ true → rest ≡ true) → ((not t || c r) && rest) ≡ true
-    pick true k f = let s = and-both (c r) (every c (keep a l)) k in rw (s .0, f (s .1))
-    pick false k f = f k
 
 -- where there is a row, numbered above a and at most b, a is at most b
 some-between : (a b : ℕ) (l : List (List ℕ)) → 1 ≤ length l → every (λ (r : List ℕ). ltb a (numberOf r)) l ≡ true → every (λ (r : List ℕ). leb (numberOf r) b) l ≡ true → a ≤ b
@@ -47,16 +35,6 @@ unfolding every
 some-between a b [] n h k = absurd (omega arith)
 some-between a b (r ∷ l) n h k =
     omega (arith, ltb-true a (numberOf r) (and-both (ltb a (numberOf r)) (every (λ (x : List ℕ). ltb a (numberOf x)) l) h .0), leb-true (numberOf r) b (and-both (leb (numberOf r) b) (every (λ (x : List ℕ). leb (numberOf x) b) l) k .0))
-
--- one passes, or none is kept
-any-kept : (b : List ℕ → Bool) (l : List (List ℕ)) → any b l ≡ not (eqb (length (keep b l)) 0)
-unfolding any keep
-any-kept b [] = refl
-any-kept b (r ∷ l) = pick (b r) (any-kept b l)
-  where
-    pick : (t : Bool) → any b l ≡ not (eqb (length (keep b l)) 0) → (t || any b l) ≡ not (eqb (length (consIf t r (keep b l))) 0)
-    pick true e = ap not (sym (ne-eqb (suc (length (keep b l))) 0 (λ z. omega arith)))
-    pick false e = e
 
 -- a page's records are its committed ones and those that stay
 stays-count : (p : ℕ) (l : List (List ℕ)) → length (keep (committedOn p) l) + length (keep (onPage p) (keep (stays p) l)) ≡ length (keep (onPage p) l)
@@ -110,9 +88,6 @@ stays-other p q d l = keep-keep (onPage q) (stays p) l ∙ keep-same (λ (r : Li
         let n : onPage p r ≡ false = ne-eqb (pageOf r) p (λ z. d (sym (eqb-true (pageOf r) q e) ∙ z)) in
         rw n
     go r false e = and-false (stays p r)
-
-pub stays-any : (p q : ℕ) → (q ≡ p → ⊥) → (l : List (List ℕ)) → any (onPage q) (keep (stays p) l) ≡ any (onPage q) l
-stays-any p q d l = any-kept (onPage q) (keep (stays p) l) ∙ ap (λ (k : List (List ℕ)). not (eqb (length k) 0)) (stays-other p q d l) ∙ sym (any-kept (onPage q) l)
 
 -- online is what no stored page holds, then what is not committed: `above` is the test for the first
 module _ (p : ℕ) (above : List ℕ → Bool) (rows opened online : List (List ℕ)) (hc : every committed rows ≡ true) (ho : every uncommitted opened ≡ true) (is : online ≅ keep above rows ++ opened) where
@@ -177,7 +152,7 @@ module _ {p : ℕ} {marks ms : List ℕ} {rows opened online : List (List ℕ)} 
 
   all-within : every within rows ≡ true
   all-within =
-      every-where (λ (r : List ℕ). onPage p r && aboveStamp marks r) (numberAtMost stamp) rows
+      picked-every (λ (r : List ℕ). onPage p r && aboveStamp marks r) (numberAtMost stamp) rows
       (ap (λ (k : List (List ℕ)). every (numberAtMost stamp) k) (sym (keep-both (onPage p) (aboveStamp marks) rows)) ∙ sym (≅-every (numberAtMost stamp) folded) ∙ greatest-all (keep (committedOn p) online))
 
   -- the new stamp is not below the old

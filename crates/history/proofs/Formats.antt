@@ -4,21 +4,16 @@ use Prim.Native.Nat.{ℕ, zero, suc, _+_, _*_, _-_, _≤_}
 use native.Mathlib.Omega.{arith}
 use mathlib.Core.Path.{_≡_, refl, sym, ap, _∙_}
 use mathlib.Core.Logic.{inl}
-use mathlib.Core.Bool.{Bool, true, false, not, _&&_, false≢true}
+use mathlib.Core.Bool.{Bool, true, false, _&&_, false≢true}
 use mathlib.Core.List.{List, []}
 use lib.ListN.{length, getD, replicate, length-replicate, drop-of-length-le}
 use lib.Dec.{eqb}
 use borrow.Author.Tests.{eqb-true}
 use Rattle.record.specs.Rows.{keep, any}
 use Rattle.record.specs.Record.{applied}
-use Rattle.rules.specs.declared.Bad.the-variants.{Parameter, Lent as LentLength}
-use Rattle.rules.specs.declared.Refusal.the-variants.{Argument}
-use Rattle.rules.specs.declared.Verdict.the-variants.{Go}
 use Rattle.rules.specs.Lent.{Lent, framesOf, lastOf, closedOf, loggedOf, inFrame, isDirty}
 use Rattle.rules.specs.Sound.{every, inRange, exactLengths}
 use Rattle.rules.specs.Steps.{formatted}
-use Rattle.rules.specs.Calls.{refuseIf, judgeFormat}
-use Rattle.rules.proofs.Verdicts.{went, holds}
 use Rattle.onlinecheck.proofs.Rows.{and-both}
 use Rattle.redo.proofs.Loose.{still, numberedFrom}
 use Rattle.seats.proofs.Places.{seated-none}
@@ -27,8 +22,8 @@ use Rattle.readback.proofs.Log.{log-format, log-zero-format, log-length-format}
 use Rattle.readback.proofs.Lost.{reads-formatted}
 use Rattle.history.specs.Past.{fresh}
 use Rattle.history.proofs.Right.{Ground, DurableRight, LostRight, Right}
-use Rattle.history.proofs.Pasts.{past-fresh}
 use Rattle.history.proofs.Settle.{settle}
+use Rattle.history.proofs.Pasts.{past-fresh}
 
 -- the lengths that format asks of the lent areas
 record Lengths (s : Lent) (size pages frames room span : ℕ) : Type 0 where
@@ -62,15 +57,6 @@ lengths-of s size pages frames room span e =
       pool = eqb-true (length (s .lost .pool)) (size * frames) (e5 .1);
     }
 
--- a format that is not refused: parameters in range, lent lengths exact
-format-went : (s : Lent) (size pages frames room span : ℕ) → judgeFormat s size pages frames room span ≡ Go → (inRange size pages frames room span ≡ true) × Lengths s size pages frames room span
-unfolding judgeFormat
-format-went s size pages frames room span e =
-    let fits : Bool = eqb (length (s .durable .fixed)) 20 && exactLengths s size pages frames room span in
-    let a = went (not (inRange size pages frames room span)) (Argument Parameter) (refuseIf (not fits) (Argument LentLength) Go) e in
-    let b = went (not fits) (Argument LentLength) Go (a .1) in
-    (holds (inRange size pages frames room span) (a .0), lengths-of s size pages frames room span (and-both (eqb (length (s .durable .fixed)) 20) (exactLengths s size pages frames room span) (holds fits (b .0)) .1))
-
 -- zero bytes: no number is live, and every page is absent
 zero-at : (n i : ℕ) → _≡_ {A = ℕ} (getD (replicate n 0) i 0) 0
 zero-at zero i = refl
@@ -92,18 +78,15 @@ lost-new size pages last frames start marks stored pool =
       frame = λ p below inside. absurd (false≢true (sym (ap (λ (e : ℕ). inFrame e) (zero-at pages p)) ∙ inside));
     }
 
-module _ (s : Lent) (size pages frames room span last : ℕ) (m : last ≤ 4294967295) (e : judgeFormat s size pages frames room span ≡ Go) where
+module _ (s : Lent) (size pages frames room span last : ℕ) (m : last ≤ 4294967295) (ranged : inRange size pages frames room span ≡ true) (exact : exactLengths s size pages frames room span ≡ true) where
   abbrev ground : Ground
   ground = record { size = size; pages = pages; start = s .durable .stored; base = last }
 
   abbrev new : Lent
   new = formatted s size pages frames room span last .lent
 
-  ranged : inRange size pages frames room span ≡ true
-  ranged = format-went s size pages frames room span e .0
-
   long : Lengths s size pages frames room span
-  long = format-went s size pages frames room span e .1
+  long = lengths-of s size pages frames room span exact
 
   -- every stamp is L, no dirty number is there, and the log is empty
   durable-new : DurableRight ground [] (new .durable)
@@ -136,7 +119,7 @@ module _ (s : Lent) (size pages frames room span last : ℕ) (m : last ≤ 42949
         page = λ p below. refl;
       }
 
-  -- format leaves bytes that are right for a new history
+  -- format, its parameters in range and the lent lengths exact, leaves bytes that are right for a new history
   pub format-right : Right (record { size = size; pages = pages; start = s .durable .stored; base = last }) [] (fresh size pages last (s .durable .stored)) (formatted s size pages frames room span last .lent)
   unfolding formatted fresh keep
   format-right =

@@ -6,22 +6,25 @@ use mathlib.Core.Path.{_≡_, refl, sym, ap, _∙_}
 use mathlib.Core.Bool.{Bool, true, false, cond, not, _&&_, _||_, false≢true}
 use mathlib.Core.List.{List, [], _∷_, _++_, append-nil}
 use lib.ListN.{length}
-use lib.Dec.{leb, ltb}
-use borrow.Author.Tests.{eqb-true, ne-eqb, ltb-true, le-leb, lt-leb}
+use lib.Dec.{leb}
+use borrow.Author.Tests.{eqb-true, ne-eqb, lt-leb}
 use Rattle.record.specs.Rows.{keep, consIf}
 use Rattle.record.specs.Record.{ownerOf, numberOf, committed, applied, onPage, committedOn, ownedBy, numbered, numberRows}
 use Rattle.table.proofs.Laws.{Wide, none, one, wide-keep, wide-append, wide-number}
 use Rattle.rules.specs.Sound.{every}
-use Rattle.onlinecheck.proofs.Rows.{and-both, every-imp}
+use Rattle.rules.proofs.Extremes.{numberAtMost}
+use Rattle.rules.proofs.Every.{or-right, every-kept}
+use Rattle.onlinecheck.proofs.Rows.{every-imp}
 use Rattle.redo.proofs.View.{keep-append}
-use Rattle.redo.proofs.Views.{keep-keep, keep-same, keep-same-where, keep-swap}
+use Rattle.redo.proofs.Views.{keep-keep, keep-same, keep-same-where, keep-swap, keep-all}
 use Rattle.redo.proofs.Loose.{≅-every, owned-open}
-use Rattle.redo.proofs.Numbered.{every-not-owned, numberedFrom-committed, keep-committed-all, keep-others-all, numbered-committed, numbered-number, numberedFrom-between}
+use Rattle.redo.proofs.Numbered.{every-not-owned, keep-others-all, numbered-committed, numbered-number}
 use Rattle.history.specs.Past.{Past, begins, updates, commits, aborts, falls, rises, startPage, shown}
 use Rattle.history.specs.Committed.{committedOf, numberedTo}
-use Rattle.history.proofs.Right.{Ground, PastRight, rowsOf, uncommitted, openOf, openRow}
-use Rattle.history.proofs.Pasts.{every-append, every-kept, made-wide}
-use Rattle.history.proofs.Soundly.{open-facts}
+use Rattle.history.proofs.Right.{Ground, PastRight, rowsOf, uncommitted, openOf}
+use Rattle.history.proofs.Tested.{every-append}
+use Rattle.history.proofs.Facts.{done-committed, done-last, open-unset, open-every}
+use Rattle.history.proofs.Pasts.{made-wide}
 
 -- begin, abort, update, a loss and a restart leave what is committed as it is
 pub begin-keeps : (h : Past) (x : ℕ) → committedOf (begins h x) ≡ committedOf h
@@ -30,7 +33,7 @@ begin-keeps h x = refl
 
 pub abort-keeps : (h : Past) (x : ℕ) → 1 ≤ x → committedOf (aborts h x) ≡ committedOf h
 unfolding aborts
-abort-keeps h x m = keep-swap committed (λ (r : List ℕ). not (ownedBy x r)) (h .made) ∙ keep-others-all x (committedOf h) m (every-kept committed (h .made))
+abort-keeps h x m = keep-swap committed (λ (r : List ℕ). not (ownedBy x r)) (h .made) ∙ keep-others-all x (committedOf h) m (every-kept committed committed (λ r e. e) (h .made))
 
 pub update-keeps : (h : Past) (r : List ℕ) → committed r ≡ false → committedOf (updates h r) ≡ committedOf h
 unfolding updates keep
@@ -39,11 +42,11 @@ update-keeps h r c =
 
 pub falls-keeps : (h : Past) → committedOf (falls h) ≡ committedOf h
 unfolding falls
-falls-keeps h = keep-committed-all (committedOf h) (every-kept committed (h .made))
+falls-keeps h = keep-all committed (committedOf h) (every-kept committed committed (λ r e. e) (h .made))
 
 pub rises-keeps : (h : Past) → committedOf (rises h) ≡ committedOf h
 unfolding rises
-rises-keeps h = keep-committed-all (committedOf h) (every-kept committed (h .made))
+rises-keeps h = keep-all committed (committedOf h) (every-kept committed committed (λ r e. e) (h .made))
 
 -- numbering from k on changes nothing that is committed under a smaller number
 number-keeps : (x k n : ℕ) → 1 ≤ x → n < k → {l : List (List ℕ)} → Wide 19 l → k + length (keep (ownedBy x) l) ≤ 4294967296 → keep (numberedTo n) (numberRows x k l) ≡ keep (numberedTo n) l
@@ -82,22 +85,11 @@ module _ {g : Ground} {done : List (List ℕ)} {h : Past} (p : PastRight g done 
   numbers =
       ≅-every low (p .made)
       ∙ every-append low (rowsOf g done) (openOf h)
-      (every-imp inside low (λ r k. given r (and-both (leb 0 (numberOf r)) (ltb (numberOf r) (h .last + 1)) k .1)) (rowsOf g done)
-      (numberedFrom-between 0 (h .last + 1) (g .base + 1) (p .done-wide) (omega arith) (omega (arith, p .last)) (omega (arith, p .bound))))
-      (every-imp uncommitted low (λ r k. ap (λ (t : Bool). t || leb (numberOf r) (h .last)) k) (openOf h) (every-kept uncommitted (h .made)))
+      (every-imp (numberAtMost (h .last)) low (λ r. or-right (not (committed r)) (leb (numberOf r) (h .last))) (rowsOf g done) (done-last p))
+      (every-imp uncommitted low (λ r k. ap (λ (t : Bool). t || leb (numberOf r) (h .last)) k) (openOf h) (open-unset p))
     where
       low : List ℕ → Bool
       low r = not (committed r) || leb (numberOf r) (h .last)
-
-      inside : List ℕ → Bool
-      inside r = leb 0 (numberOf r) && ltb (numberOf r) (h .last + 1)
-
-      given : (r : List ℕ) → ltb (numberOf r) (h .last + 1) ≡ true → low r ≡ true
-      given r k = go (committed r)
-        where
-          go : (t : Bool) → (not t || leb (numberOf r) (h .last)) ≡ true
-          go true = le-leb (numberOf r) (h .last) (omega (arith, ltb-true (numberOf r) (h .last + 1) k))
-          go false = refl
 
   -- so what is committed is what is committed up to the last number
   pub committed-to : keep (numberedTo (h .last)) (h .made) ≡ committedOf h
@@ -131,8 +123,8 @@ pub unowned : {g : Ground} {done : List (List ℕ)} {h : Past} → PastRight g d
 unowned {g} {done} {h} p x m n =
     ≅-every another (p .made)
     ∙ every-append another (rowsOf g done) (openOf h)
-    (every-not-owned x (rowsOf g done) m (numberedFrom-committed (g .base + 1) (p .done-wide)))
-    (every-imp (openRow g (h .live)) another (λ r e. go r (ownedBy x r) refl (open-facts g (h .live) r e .alive)) (openOf h) (p .open-rows))
+    (every-not-owned x (rowsOf g done) m (done-committed p))
+    (open-every p another (λ r f. go r (ownedBy x r) refl (f .alive)))
   where
     another : List ℕ → Bool
     another r = not (ownedBy x r)

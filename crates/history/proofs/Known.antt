@@ -1,7 +1,7 @@
 -- What the lent bytes tell of the history, under the invariant: who is live, who holds bytes, what is whose, the last number and the sizes.
 -- So a call that asks the tables hears what the history says.
 use Prim.Native.Nat.{ℕ, _≤_}
-use mathlib.Core.Path.{_≡_, sym, _∙_}
+use mathlib.Core.Path.{_≡_, sym, ap, _∙_}
 use mathlib.Core.Bool.{true, not}
 use mathlib.Core.List.{List}
 use Rattle.record.specs.Rows.{keep}
@@ -9,13 +9,15 @@ use Rattle.record.specs.Record.{committed, ownedBy}
 use Rattle.rules.specs.Lent.{Lent, sizeOf, pagesOf, lastOf, onlineOf}
 use Rattle.rules.specs.Sound.{every}
 use Rattle.rules.specs.Calls.{isLive, clashes, held}
+use Rattle.rules.proofs.Extremes.{numberAtMost}
 use Rattle.onlinecheck.proofs.Rows.{every-imp}
 use Rattle.redo.proofs.Loose.{≅-any, ≅-owned}
 use Rattle.redo.proofs.Numbered.{every-not-owned}
 use Rattle.history.specs.Past.{Past}
-use Rattle.history.proofs.Tested.{every-keep, any-behind, keep-behind}
 use Rattle.history.proofs.Right.{Ground, rowsOf, openOf, aboveStamp, Right}
-use Rattle.history.proofs.Soundly.{live-byte, done-committed}
+use Rattle.history.proofs.Tested.{every-keep, any-behind, keep-behind}
+use Rattle.history.proofs.Facts.{done-committed, done-last}
+use Rattle.history.proofs.Soundly.{live-byte}
 
 -- only uncommitted records hold bytes
 clashes-open : (x p offset w : ℕ) (r : List ℕ) → committed r ≡ true → not (clashes x p offset w r) ≡ true
@@ -32,12 +34,16 @@ module _ (g : Ground) (done : List (List ℕ)) (h : Past) (s : Lent) (c : Right 
   pub last-read : lastOf s ≡ h .last
   last-read = c .durable .last ∙ sym (c .past .last)
 
+  -- no committed update is numbered above it
+  pub rows-last : every (numberAtMost (lastOf s)) (rowsOf g done) ≡ true
+  rows-last = ap (λ (n : ℕ). every (numberAtMost n) (rowsOf g done)) last-read ∙ done-last (c .past)
+
   pub live-read : (x : ℕ) → 1 ≤ x → x ≤ 32 → isLive (s .lost .tables) x ≡ h .live x
   live-read = live-byte g done h s c
 
   -- the committed records above their pages' stamps
   kept-committed : every committed (keep (aboveStamp (s .durable .marks)) (rowsOf g done)) ≡ true
-  kept-committed = every-keep (aboveStamp (s .durable .marks)) committed (rowsOf g done) (done-committed g done h s c)
+  kept-committed = every-keep (aboveStamp (s .durable .marks)) committed (rowsOf g done) (done-committed (c .past))
 
   no-clash : (x p offset w : ℕ) (l : List (List ℕ)) → every committed l ≡ true → every (λ (r : List ℕ). not (clashes x p offset w r)) l ≡ true
   no-clash x p offset w l e = every-imp committed (λ (r : List ℕ). not (clashes x p offset w r)) (clashes-open x p offset w) l e
@@ -46,7 +52,7 @@ module _ (g : Ground) (done : List (List ℕ)) (h : Past) (s : Lent) (c : Right 
   held-read x p offset w =
       ≅-any (clashes x p offset w) (c .lost .online-is)
       ∙ any-behind (clashes x p offset w) (keep (aboveStamp (s .durable .marks)) (rowsOf g done)) (openOf h) (no-clash x p offset w (keep (aboveStamp (s .durable .marks)) (rowsOf g done)) kept-committed)
-      ∙ sym (any-behind (clashes x p offset w) (rowsOf g done) (openOf h) (no-clash x p offset w (rowsOf g done) (done-committed g done h s c)))
+      ∙ sym (any-behind (clashes x p offset w) (rowsOf g done) (openOf h) (no-clash x p offset w (rowsOf g done) (done-committed (c .past))))
       ∙ sym (≅-any (clashes x p offset w) (c .past .made))
 
   -- an owner's records stand in the tables in the order made
@@ -54,5 +60,5 @@ module _ (g : Ground) (done : List (List ℕ)) (h : Past) (s : Lent) (c : Right 
   owned-read x low =
       ≅-owned x low (c .lost .online-is)
       ∙ keep-behind (ownedBy x) (keep (aboveStamp (s .durable .marks)) (rowsOf g done)) (openOf h) (every-not-owned x (keep (aboveStamp (s .durable .marks)) (rowsOf g done)) low kept-committed)
-      ∙ sym (keep-behind (ownedBy x) (rowsOf g done) (openOf h) (every-not-owned x (rowsOf g done) low (done-committed g done h s c)))
+      ∙ sym (keep-behind (ownedBy x) (rowsOf g done) (openOf h) (every-not-owned x (rowsOf g done) low (done-committed (c .past))))
       ∙ sym (≅-owned x low (c .past .made))

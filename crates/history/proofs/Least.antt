@@ -4,39 +4,22 @@ use Prim.Native.Nat.{ℕ, _≤_}
 use native.Mathlib.Omega.{arith}
 use mathlib.Core.Path.{_≡_, refl, sym, _∙_}
 use mathlib.Core.Logic.{_⊎_, inl, inr}
-use mathlib.Core.Bool.{Bool, true, false, not, _&&_, _||_}
+use mathlib.Core.Bool.{Bool, true, false, not, _||_}
 use mathlib.Core.List.{List, [], _∷_, _++_}
 use lib.ListN.{length}
 use lib.Dec.{eqb, leb}
-use borrow.Author.Tests.{eqb-true, eq-eqb, leb-true, le-leb}
-use Rattle.record.specs.Rows.{keep, consIf, any}
+use borrow.Author.Tests.{eqb-true, eqb-false, eq-eqb, leb-true, le-leb, not-true}
+use Rattle.record.specs.Rows.{keep, any}
 use Rattle.record.specs.Record.{pageOf, numberOf, committed, committedOn, smallest}
-use Rattle.onlinecheck.proofs.Rows.{and-both, every-imp}
 use Rattle.rules.specs.Sound.{every, between}
-use Rattle.rules.proofs.Every.{meet}
 use Rattle.rules.proofs.Extremes.{hasNumber, smallest-found, smallest-nothing, smallest-some}
+use Rattle.rules.proofs.Every.{or-left, or-right, meet}
+use Rattle.onlinecheck.proofs.Rows.{and-both, every-imp}
 use Rattle.redo.proofs.Loose.{_≅_, ≅-any, ≅-every}
-use Rattle.history.proofs.Tested.{and-in, or-left, or-right, every-append, every-two, every-kept, every-keep}
+use Rattle.redo.proofs.Reader.{every-both}
+use Rattle.seats.proofs.Loops.{any-kept}
 use Rattle.history.proofs.Right.{uncommitted}
-
--- a test of those kept, told of all
-kept-every : (a c : List ℕ → Bool) (l : List (List ℕ)) → every c (keep a l) ≡ true → every (λ (r : List ℕ). not (a r) || c r) l ≡ true
-unfolding every keep
-kept-every a c [] h = refl
-kept-every a c (r ∷ l) h = pick (a r) (kept-every a c l) h
-  where
-    pick : (t : Bool) → (every c (keep a l) ≡ true → every (λ (q : List ℕ). not (a q) || c q) l ≡ true) → every c (consIf t r (keep a l)) ≡ true → ((not t || c r) && every (λ (q : List ℕ). not (a q) || c q) l) ≡ true
-    pick true f k =
-        let e : (c r ≡ true) × (every c (keep a l) ≡ true) = and-both (c r) (every c (keep a l)) k in
-        and-in (c r) (every (λ (q : List ℕ). not (a q) || c q) l) (e .0) (f (e .1))
-    pick false f k = f k
-
-every-front : (c : List ℕ → Bool) (l m : List (List ℕ)) → every c (l ++ m) ≡ true → every c l ≡ true
-unfolding every
-every-front c [] m h = refl
-every-front c (r ∷ l) m h =
-    let e : (c r ≡ true) × (every c (l ++ m) ≡ true) = and-both (c r) (every c (l ++ m)) h in
-    and-in (c r) (every c l) (e .0) (every-front c l m (e .1))
+use Rattle.history.proofs.Tested.{and-in, every-front, every-keep, every-picked, picked-every, online-all}
 
 any-front : (c : List ℕ → Bool) (l m : List (List ℕ)) → any c l ≡ true → any c (l ++ m) ≡ true
 unfolding any
@@ -78,35 +61,26 @@ least-between first last low (r ∷ l) h =
 
 -- one passes, so one is kept
 some-kept : (d : List ℕ → Bool) (l : List (List ℕ)) → any d l ≡ true → 1 ≤ length (keep d l)
-unfolding any keep
-some-kept d [] h = let z : _≡_ {A = ℕ} 0 1 = cc in absurd (omega arith)
-some-kept d (r ∷ l) h = pick (d r) (some-kept d l) h
-  where
-    pick : (t : Bool) → (any d l ≡ true → 1 ≤ length (keep d l)) → (t || any d l) ≡ true → 1 ≤ length (consIf t r (keep d l))
-    pick true f k = omega arith
-    pick false f k = f k
+some-kept d l h = let n = eqb-false (length (keep d l)) 0 (not-true (eqb (length (keep d l)) 0) (sym (any-kept d l) ∙ h)) in omega arith
 
 -- `above` picks the committed updates that no stored page holds: online are these, then the uncommitted ones
 module _ (above : List ℕ → Bool) (rows opened : List (List ℕ)) {online : List (List ℕ)} (is : online ≅ keep above rows ++ opened) where
-  pub online-all : (c : List ℕ → Bool) → every (λ (r : List ℕ). not (above r) || c r) rows ≡ true → every c opened ≡ true → every c online ≡ true
-  online-all c h k = ≅-every c is ∙ every-append c (keep above rows) opened (every-kept above c rows h) k
-
   lacked-all : (c : List ℕ → Bool) → every c online ≡ true → every (λ (r : List ℕ). not (above r) || c r) rows ≡ true
-  lacked-all c h = kept-every above c rows (every-front c (keep above rows) opened (sym (≅-every c is) ∙ h))
+  lacked-all c h = picked-every above c rows (every-front c (keep above rows) opened (sym (≅-every c is) ∙ h))
 
   -- where no committed online record is numbered below n, no update that a stored page lacks is
   pub lacked-from : every committed rows ≡ true → (n : ℕ) → every (λ (r : List ℕ). leb n (numberOf r)) (keep committed online) ≡ true → every (λ (r : List ℕ). not (above r) || leb n (numberOf r)) rows ≡ true
   lacked-from all-committed n h =
-      every-two committed (λ (r : List ℕ). not (above r) || (not (committed r) || leb n (numberOf r))) (λ (r : List ℕ). not (above r) || leb n (numberOf r))
+      every-both committed (λ (r : List ℕ). not (above r) || (not (committed r) || leb n (numberOf r))) (λ (r : List ℕ). not (above r) || leb n (numberOf r))
       (λ r e k. rw (e) at k) rows all-committed
-      (lacked-all (λ (r : List ℕ). not (committed r) || leb n (numberOf r)) (kept-every committed (λ (r : List ℕ). leb n (numberOf r)) online h))
+      (lacked-all (λ (r : List ℕ). not (committed r) || leb n (numberOf r)) (picked-every committed (λ (r : List ℕ). leb n (numberOf r)) online h))
 
   -- the updates that no stored page holds are numbered from `first` to `last`
   module _ (first last : ℕ) (low : 1 ≤ first) (within : every (λ (r : List ℕ). not (above r) || between first (numberOf r) last) rows ≡ true) (unset : every uncommitted opened ≡ true) where
     -- those of one page, or all
     module _ (d : List ℕ → Bool) (picks : (r : List ℕ) → d r ≡ true → committed r ≡ true) where
       kept-within : every (λ (r : List ℕ). between first (numberOf r) last) (keep d online) ≡ true
-      kept-within = every-kept d (λ (r : List ℕ). between first (numberOf r) last) online (online-all (λ (r : List ℕ). not (d r) || between first (numberOf r) last)
+      kept-within = every-picked d (λ (r : List ℕ). between first (numberOf r) last) online (online-all above rows opened is (λ (r : List ℕ). not (d r) || between first (numberOf r) last)
           (every-imp (λ (r : List ℕ). not (above r) || between first (numberOf r) last) (λ (r : List ℕ). not (above r) || (not (d r) || between first (numberOf r) last)) (λ r e. more (above r) (d r) (between first (numberOf r) last) e) rows within)
           (every-imp uncommitted (λ (r : List ℕ). not (d r) || between first (numberOf r) last) (λ r e. passes-not r (d r) refl e) opened unset))
         where
@@ -135,7 +109,7 @@ module _ (above : List ℕ → Bool) (rows opened : List (List ℕ)) {online : L
     module _ (all-committed : every committed rows ≡ true) where
       -- the page of an update that a stored page lacks has a smallest number
       pub lacked-dirty : every (λ (r : List ℕ). not (above r) || leb 1 (smallest 0 (keep (committedOn (pageOf r)) online))) rows ≡ true
-      lacked-dirty = kept-every above (λ (r : List ℕ). leb 1 (smallest 0 (keep (committedOn (pageOf r)) online))) rows
+      lacked-dirty = picked-every above (λ (r : List ℕ). leb 1 (smallest 0 (keep (committedOn (pageOf r)) online))) rows
           (every-imp (λ (r : List ℕ). any (committedOn (pageOf r)) (keep above rows ++ opened)) (λ (r : List ℕ). leb 1 (smallest 0 (keep (committedOn (pageOf r)) online)))
           (λ r e. le-leb 1 (smallest 0 (keep (committedOn (pageOf r)) online)) (found-least (committedOn (pageOf r)) (λ q k. and-both (eqb (pageOf q) (pageOf r)) (committed q) k .1) (≅-any (committedOn (pageOf r)) is ∙ e)))
           (keep above rows)

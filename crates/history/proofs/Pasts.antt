@@ -3,7 +3,7 @@
 use Prim.Native.Nat.{ℕ, _+_, _≤_}
 use native.Mathlib.Omega.{arith}
 use mathlib.Core.Path.{_≡_, refl, sym, ap, _∙_, subst}
-use mathlib.Core.Bool.{Bool, true, false, not, _&&_, _||_, or-true}
+use mathlib.Core.Bool.{Bool, true, false, not, _&&_, _||_, or-true, and-false}
 use mathlib.Core.List.{List, [], _∷_, _++_, map, append-assoc}
 use lib.ListN.{length, length-append, length-map}
 use lib.Seq.{getD-take}
@@ -12,24 +12,20 @@ use Rattle.record.specs.Rows.{keep, consIf}
 use Rattle.record.specs.Record.{ownerOf, numberOf, committed, ownedBy, bodyOf, wellFormed}
 use Rattle.table.proofs.Laws.{Wide, none, one, wide-keep, wide-append, wide-bodies}
 use Rattle.rules.specs.Sound.{every, pairs, between, apart}
+use Rattle.rules.proofs.Every.{every-kept}
 use Rattle.onlinecheck.proofs.Rows.{and-both, every-imp}
 use Rattle.redo.proofs.View.{SameBody, keep-append}
-use Rattle.redo.proofs.Views.{keep-keep, keep-same, keep-swap}
+use Rattle.redo.proofs.Views.{keep-keep, keep-same, keep-swap, keep-all}
 use Rattle.redo.proofs.Loose.{_≅_, still, then, numberedFrom, ≅-sym, ≅-equal, ≅-before, ≅-keep, ≅-wide, ≅-number, owned-open}
-use Rattle.redo.proofs.Numbered.{body-formed, keep-committed-all, keep-open-none, keep-others-all, numberedFrom-append, numberedFrom-wide, numberedFrom-committed}
+use Rattle.redo.proofs.Numbered.{body-formed, keep-open-none, keep-others-all, numberedFrom-append, numberedFrom-wide}
 use Rattle.redo.proofs.Commits.{commit-loose, commit-open}
-use Rattle.redo.proofs.Reader.{every-keep}
+use Rattle.redo.proofs.Reader.{every-kept-where}
 use Rattle.history.specs.Past.{Past, fresh, begins, updates, commits, aborts, falls, rises}
 use Rattle.history.proofs.Right.{Ground, PastRight, rowsOf, uncommitted, openOf, openRow}
+use Rattle.history.proofs.Tested.{every-append, pairs-keep}
+use Rattle.history.proofs.Facts.{open-facts, done-committed, open-unset}
 
--- tests of two lists, of a list with one more, of what another test leaves
-pub every-append : (b : List ℕ → Bool) (l m : List (List ℕ)) → every b l ≡ true → every b m ≡ true → every b (l ++ m) ≡ true
-unfolding every
-every-append b [] m h k = k
-every-append b (r ∷ l) m h k =
-    let e : (b r ≡ true) × (every b l ≡ true) = and-both (b r) (every b l) h in
-    rw (e .0) (every-append b l m (e .1) k)
-
+-- tests of a list with one more
 every-one : (b : List ℕ → Bool) (r : List ℕ) → b r ≡ true → every b (r ∷ []) ≡ true
 unfolding every
 every-one b r h = rw h
@@ -42,28 +38,6 @@ pairs-more b (x ∷ l) r h k =
     let f : (b x r ≡ true) × (every (λ (a : List ℕ). b a r) l ≡ true) = and-both (b x r) (every (λ (a : List ℕ). b a r) l) k in
     rw (every-append (b x) l (r ∷ []) (e .0) (every-one (b x) r (f .0))) (pairs-more b l r (e .1) (f .1))
 
-pairs-keep : (b : List ℕ → List ℕ → Bool) (c : List ℕ → Bool) (l : List (List ℕ)) → pairs b l ≡ true → pairs b (keep c l) ≡ true
-unfolding pairs keep
-pairs-keep b c [] h = refl
-pairs-keep b c (x ∷ l) h = pick (c x) (pairs-keep b c l (e .1))
-  where
-    e : (every (b x) l ≡ true) × (pairs b l ≡ true)
-    e = and-both (every (b x) l) (pairs b l) h
-
-    pick : (t : Bool) → pairs b (keep c l) ≡ true → pairs b (consIf t x (keep c l)) ≡ true
-    pick true k = rw (every-keep c (b x) (b x) (λ r p q. q) l (e .0)) k
-    pick false k = k
-
--- what passes a test passes it
-pub every-kept : (c : List ℕ → Bool) (l : List (List ℕ)) → every c (keep c l) ≡ true
-unfolding every keep
-every-kept c [] = refl
-every-kept c (x ∷ l) = pick (c x) refl (every-kept c l)
-  where
-    pick : (t : Bool) → c x ≡ t → every c (keep c l) ≡ true → every c (consIf t x (keep c l)) ≡ true
-    pick true e k = rw e k
-    pick false e k = k
-
 -- the records of well-formed rows are well formed
 body-same : (r : List ℕ) → SameBody (bodyOf r) r
 body-same r i p q = getD-take 14 r i 0 q
@@ -75,15 +49,7 @@ bodies-formed size pages (r ∷ l) h =
     let e : (wellFormed size pages r ≡ true) × (every (wellFormed size pages) l ≡ true) = and-both (wellFormed size pages r) (every (wellFormed size pages) l) h in
     rw (body-formed size pages (bodyOf r) r (body-same r) ∙ e .0) (bodies-formed size pages l (e .1))
 
--- an uncommitted update: its record is well formed; it stays one while its owner is live
-open-formed : (g : Ground) (live : ℕ → Bool) (r : List ℕ) → openRow g live r ≡ true → wellFormed (g .size) (g .pages) r ≡ true
-unfolding openRow
-open-formed g live r h =
-    let a : Bool = wellFormed (g .size) (g .pages) r && between 1 (ownerOf r) 32 in
-    let k = and-both (a && eqb (numberOf r) 0) (live (ownerOf r)) h in
-    let m = and-both a (eqb (numberOf r) 0) (k .0) in
-    and-both (wellFormed (g .size) (g .pages) r) (between 1 (ownerOf r) 32) (m .0) .0
-
+-- an uncommitted update stays one while its owner is live
 open-live : (g : Ground) (live on : ℕ → Bool) (r : List ℕ) → (live (ownerOf r) ≡ true → on (ownerOf r) ≡ true) → openRow g live r ≡ true → openRow g on r ≡ true
 unfolding openRow
 open-live g live on r f h =
@@ -91,11 +57,7 @@ open-live g live on r f h =
     let k : (a ≡ true) × (live (ownerOf r) ≡ true) = and-both a (live (ownerOf r)) h in
     rw (k .0, f (k .1))
 
--- what begin, update, commit, abort, a loss and a restart leave uncommitted
-pub open-begin : (h : Past) (x : ℕ) → openOf (begins h x) ≡ openOf h
-unfolding begins
-open-begin h x = refl
-
+-- what update, commit, abort, a loss and a restart leave uncommitted
 pub open-update : (h : Past) (r : List ℕ) → committed r ≡ false → openOf (updates h r) ≡ openOf h ++ (r ∷ [])
 unfolding updates keep
 open-update h r c = keep-append uncommitted (h .made) (r ∷ []) ∙ ap (λ (t : Bool). openOf h ++ consIf (not t) r []) c
@@ -113,7 +75,7 @@ unfolding aborts
 open-abort h x = keep-swap uncommitted (λ (r : List ℕ). not (ownedBy x r)) (h .made)
 
 open-none : (l : List (List ℕ)) → keep uncommitted (keep committed l) ≡ []
-open-none l = keep-open-none (keep committed l) (every-kept committed l)
+open-none l = keep-open-none (keep committed l) (every-kept committed committed (λ r e. e) l)
 
 pub open-falls : (h : Past) → openOf (falls h) ≡ []
 unfolding falls
@@ -127,31 +89,35 @@ open-rises h = open-none (h .made)
 pub owned-made : (h : Past) (x : ℕ) → 1 ≤ x → keep (ownedBy x) (h .made) ≡ keep (ownedBy x) (openOf h)
 owned-made h x m = sym (keep-keep (ownedBy x) uncommitted (h .made) ∙ keep-same (λ (r : List ℕ). uncommitted r && ownedBy x r) (ownedBy x) (λ r. go r (ownedBy x r) refl) (h .made))
   where
-    none-left : (t : Bool) → (t && false) ≡ false
-    none-left true = refl
-    none-left false = refl
-
     go : (r : List ℕ) (t : Bool) → ownedBy x r ≡ t → (uncommitted r && t) ≡ t
     go r true e = ap (λ (s : Bool). not s && true) (owned-open x m r e)
-    go r false e = none-left (uncommitted r)
+    go r false e = and-false (uncommitted r)
 
--- begin: one more is live
-pub past-begin : {g : Ground} {done : List (List ℕ)} {h : Past} → PastRight g done h → (x : ℕ) → PastRight g done (begins h x)
-unfolding begins
-past-begin {g} {done} {h} p x =
+-- a step that commits nothing: what is made, who is live, whether a restart is awaited; `opened` is what it leaves uncommitted
+past-moved : {g : Ground} {done : List (List ℕ)} {h : Past} → PastRight g done h → (made opened : List (List ℕ)) (live : ℕ → Bool) (down : Bool)
+    → keep uncommitted made ≡ opened → made ≅ rowsOf g done ++ opened → every (openRow g live) opened ≡ true → Wide 19 opened → pairs apart opened ≡ true
+    → PastRight g done (record { size = h .size; pages = h .pages; start = h .start; last = h .last; made = made; live = live; down = down })
+past-moved {g} {done} p made opened live down e m r w a =
     record {
       size = p .size;
       pages = p .pages;
       start = p .start;
       last = p .last;
       bound = p .bound;
-      made = p .made;
+      made = subst (λ (l : List (List ℕ)). made ≅ rowsOf g done ++ l) (sym e) m;
       formed = p .formed;
       done-wide = p .done-wide;
-      open-rows = every-imp (openRow g (h .live)) (openRow g on) (λ r k. open-live g (h .live) on r (also (ownerOf r)) k) (openOf h) (p .open-rows);
-      open-wide = p .open-wide;
-      apart = p .apart;
+      open-rows = ap (λ (l : List (List ℕ)). every (openRow g live) l) e ∙ r;
+      open-wide = subst (λ (l : List (List ℕ)). Wide 19 l) (sym e) w;
+      apart = ap (λ (l : List (List ℕ)). pairs apart l) e ∙ a;
     }
+
+-- begin: one more is live
+pub past-begin : {g : Ground} {done : List (List ℕ)} {h : Past} → PastRight g done h → (x : ℕ) → PastRight g done (begins h x)
+unfolding begins
+past-begin {g} {done} {h} p x =
+    past-moved p (h .made) (openOf h) on (h .down) refl (p .made)
+    (every-imp (openRow g (h .live)) (openRow g on) (λ r k. open-live g (h .live) on r (also (ownerOf r)) k) (openOf h) (p .open-rows)) (p .open-wide) (p .apart)
   where
     on : ℕ → Bool
     on y = eqb y x || h .live y
@@ -163,27 +129,15 @@ past-begin {g} {done} {h} p x =
 pub past-update : {g : Ground} {done : List (List ℕ)} {h : Past} → PastRight g done h → (r : List ℕ) → length r ≡ 19 → committed r ≡ false → openRow g (h .live) r ≡ true → every (λ (a : List ℕ). apart a r) (openOf h) ≡ true → PastRight g done (updates h r)
 unfolding updates
 past-update {g} {done} {h} p r w c o a =
-    record {
-      size = p .size;
-      pages = p .pages;
-      start = p .start;
-      last = p .last;
-      bound = p .bound;
-      made = then (≅-before (r ∷ []) (p .made)) (≅-equal (append-assoc (rowsOf g done) (openOf h) (r ∷ []) ∙ ap (λ (l : List (List ℕ)). rowsOf g done ++ l) (sym e)));
-      formed = p .formed;
-      done-wide = p .done-wide;
-      open-rows = ap (λ (l : List (List ℕ)). every (openRow g (h .live)) l) e ∙ every-append (openRow g (h .live)) (openOf h) (r ∷ []) (p .open-rows) (every-one (openRow g (h .live)) r o);
-      open-wide = subst (λ (l : List (List ℕ)). Wide 19 l) (sym e) (wide-append (p .open-wide) (one w none));
-      apart = ap (λ (l : List (List ℕ)). pairs apart l) e ∙ pairs-more apart (openOf h) r (p .apart) a;
-    }
-  where
-    e : openOf (updates h r) ≡ openOf h ++ (r ∷ [])
-    e = open-update h r c
+    past-moved p (h .made ++ (r ∷ [])) (openOf h ++ (r ∷ [])) (h .live) (h .down) (open-update h r c)
+    (then (≅-before (r ∷ []) (p .made)) (≅-equal (append-assoc (rowsOf g done) (openOf h) (r ∷ []))))
+    (every-append (openRow g (h .live)) (openOf h) (r ∷ []) (p .open-rows) (every-one (openRow g (h .live)) r o))
+    (wide-append (p .open-wide) (one w none)) (pairs-more apart (openOf h) r (p .apart) a)
 
 -- those that are not the owner's are of owners that stay live
 others-live : (g : Ground) (live : ℕ → Bool) (x : ℕ) (o : List (List ℕ)) → every (openRow g live) o ≡ true → every (openRow g (λ (y : ℕ). not (eqb y x) && live y)) (keep (λ (r : List ℕ). not (ownedBy x r)) o) ≡ true
 others-live g live x o h =
-    every-keep (λ (r : List ℕ). not (ownedBy x r)) (openRow g live) (openRow g on) (λ r n k. open-live g live on r (λ e. ap (λ (t : Bool). t && live (ownerOf r)) n ∙ e) k) o h
+    every-kept-where (λ (r : List ℕ). not (ownedBy x r)) (openRow g live) (openRow g on) (λ r n k. open-live g live on r (λ e. ap (λ (t : Bool). t && live (ownerOf r)) n ∙ e) k) o h
   where
     on : ℕ → Bool
     on y = not (eqb y x) && live y
@@ -192,32 +146,18 @@ others-live g live x o h =
 pub past-abort : {g : Ground} {done : List (List ℕ)} {h : Past} → PastRight g done h → (x : ℕ) → 1 ≤ x → PastRight g done (aborts h x)
 unfolding aborts
 past-abort {g} {done} {h} p x m =
-    record {
-      size = p .size;
-      pages = p .pages;
-      start = p .start;
-      last = p .last;
-      bound = p .bound;
-      made = then (≅-keep other (p .made)) (≅-equal (keep-append other (rowsOf g done) (openOf h)
-          ∙ ap (λ (l : List (List ℕ)). l ++ keep other (openOf h)) (keep-others-all x (rowsOf g done) m (numberedFrom-committed (g .base + 1) (p .done-wide)))
-          ∙ ap (λ (l : List (List ℕ)). rowsOf g done ++ l) (sym e)));
-      formed = p .formed;
-      done-wide = p .done-wide;
-      open-rows = ap (λ (l : List (List ℕ)). every (openRow g (λ (y : ℕ). not (eqb y x) && h .live y)) l) e ∙ others-live g (h .live) x (openOf h) (p .open-rows);
-      open-wide = subst (λ (l : List (List ℕ)). Wide 19 l) (sym e) (wide-keep other (p .open-wide));
-      apart = ap (λ (l : List (List ℕ)). pairs apart l) e ∙ pairs-keep apart other (openOf h) (p .apart);
-    }
+    past-moved p (keep other (h .made)) (keep other (openOf h)) (λ (y : ℕ). not (eqb y x) && h .live y) (h .down) (open-abort h x)
+    (then (≅-keep other (p .made)) (≅-equal (keep-append other (rowsOf g done) (openOf h)
+    ∙ ap (λ (l : List (List ℕ)). l ++ keep other (openOf h)) (keep-others-all x (rowsOf g done) m (done-committed p)))))
+    (others-live g (h .live) x (openOf h) (p .open-rows)) (wide-keep other (p .open-wide)) (pairs-keep other apart (openOf h) (p .apart))
   where
     other : List ℕ → Bool
     other r = not (ownedBy x r)
 
-    e : openOf (aborts h x) ≡ keep other (openOf h)
-    e = open-abort h x
-
 -- commit: the owner's updates are committed behind all that was, in the order made; `mine` is those updates, as any table has them
-pub past-commit-of : {g : Ground} {done : List (List ℕ)} {h : Past} → PastRight g done h → (x : ℕ) → 1 ≤ x → (mine : List (List ℕ)) → mine ≡ keep (ownedBy x) (openOf h) → h .last + length mine ≤ 4294967295 → PastRight g (done ++ map bodyOf mine) (commits h x)
+pub past-commit : {g : Ground} {done : List (List ℕ)} {h : Past} → PastRight g done h → (x : ℕ) → 1 ≤ x → (mine : List (List ℕ)) → mine ≡ keep (ownedBy x) (openOf h) → h .last + length mine ≤ 4294967295 → PastRight g (done ++ map bodyOf mine) (commits h x)
 unfolding commits
-past-commit-of {g} {done} {h} p x m mine f b =
+past-commit {g} {done} {h} p x m mine f b =
     record {
       size = p .size;
       pages = p .pages;
@@ -225,7 +165,7 @@ past-commit-of {g} {done} {h} p x m mine f b =
       last = omega (arith, count, p .last, length-append done (map bodyOf mine), length-map mine bodyOf);
       bound = omega (arith, count);
       made = then (≅-number x (h .last + 1) m (p .made))
-          (then (commit-loose x (h .last + 1) (rowsOf g done) (openOf h) m (numberedFrom-committed (g .base + 1) (p .done-wide)) (every-kept uncommitted (h .made)) (p .apart) (p .open-wide))
+          (then (commit-loose x (h .last + 1) (rowsOf g done) (openOf h) m (done-committed p) (open-unset p) (p .apart) (p .open-wide))
           (≅-equal (sym (append-assoc (rowsOf g done) (fresh-rows (keep (ownedBy x) (openOf h))) (keep other (openOf h)))
           ∙ ap (λ (l : List (List ℕ)). (rowsOf g done ++ fresh-rows l) ++ keep other (openOf h)) (sym f)
           ∙ ap (λ (l : List (List ℕ)). (rowsOf g done ++ fresh-rows mine) ++ l) (sym e)
@@ -234,7 +174,7 @@ past-commit-of {g} {done} {h} p x m mine f b =
       done-wide = wide-append (p .done-wide) (wide-bodies (subst (λ (l : List (List ℕ)). Wide 19 l) (sym f) (wide-keep (ownedBy x) (p .open-wide))));
       open-rows = ap (λ (l : List (List ℕ)). every (openRow g (λ (y : ℕ). not (eqb y x) && h .live y)) l) e ∙ others-live g (h .live) x (openOf h) (p .open-rows);
       open-wide = subst (λ (l : List (List ℕ)). Wide 19 l) (sym e) (wide-keep other (p .open-wide));
-      apart = ap (λ (l : List (List ℕ)). pairs apart l) e ∙ pairs-keep apart other (openOf h) (p .apart);
+      apart = ap (λ (l : List (List ℕ)). pairs apart l) e ∙ pairs-keep other apart (openOf h) (p .apart);
     }
   where
     other : List ℕ → Bool
@@ -257,11 +197,7 @@ past-commit-of {g} {done} {h} p x m mine f b =
     own-formed : every (wellFormed (g .size) (g .pages)) mine ≡ true
     own-formed =
         ap (λ (l : List (List ℕ)). every (wellFormed (g .size) (g .pages)) l) f
-        ∙ every-keep (ownedBy x) (openRow g (h .live)) (wellFormed (g .size) (g .pages)) (λ r q k. open-formed g (h .live) r k) (openOf h) (p .open-rows)
-
-pub past-commit : {g : Ground} {done : List (List ℕ)} {h : Past} → PastRight g done h → (x : ℕ) → 1 ≤ x → h .last + length (keep (ownedBy x) (h .made)) ≤ 4294967295 → PastRight g (done ++ map bodyOf (keep (ownedBy x) (openOf h))) (commits h x)
-past-commit {g} {done} {h} p x m b =
-    past-commit-of p x m (keep (ownedBy x) (openOf h)) refl (omega (arith, b, ap (λ (l : List (List ℕ)). length l) (owned-made h x m)))
+        ∙ every-kept-where (ownedBy x) (openRow g (h .live)) (wellFormed (g .size) (g .pages)) (λ r q k. open-facts g (h .live) r k .formed) (openOf h) (p .open-rows)
 
 -- a loss, and a restart: what is committed remains
 abbrev bared : Past → Bool → Past
@@ -270,24 +206,11 @@ bared h down = record { size = h .size; pages = h .pages; start = h .start; last
 past-bare : {g : Ground} {done : List (List ℕ)} {h : Past} → PastRight g done h → (down : Bool) → PastRight g done (bared h down)
 unfolding every pairs
 past-bare {g} {done} {h} p down =
-    record {
-      size = p .size;
-      pages = p .pages;
-      start = p .start;
-      last = p .last;
-      bound = p .bound;
-      made = then (≅-keep committed (p .made)) (≅-equal (keep-append committed (rowsOf g done) (openOf h)
-          ∙ ap (λ (l : List (List ℕ)). l ++ keep committed (openOf h)) (keep-committed-all (rowsOf g done) (numberedFrom-committed (g .base + 1) (p .done-wide)))
-          ∙ ap (λ (l : List (List ℕ)). rowsOf g done ++ l) (keep-swap committed uncommitted (h .made))));
-      formed = p .formed;
-      done-wide = p .done-wide;
-      open-rows = ap (λ (l : List (List ℕ)). every (openRow g (λ (y : ℕ). false)) l) e;
-      open-wide = subst (λ (l : List (List ℕ)). Wide 19 l) (sym e) none;
-      apart = ap (λ (l : List (List ℕ)). pairs apart l) e;
-    }
-  where
-    e : keep uncommitted (keep committed (h .made)) ≡ []
-    e = open-none (h .made)
+    past-moved p (keep committed (h .made)) [] (λ (y : ℕ). false) down (open-none (h .made))
+    (then (≅-keep committed (p .made)) (≅-equal (keep-append committed (rowsOf g done) (openOf h)
+    ∙ ap (λ (l : List (List ℕ)). l ++ keep committed (openOf h)) (keep-all committed (rowsOf g done) (done-committed p))
+    ∙ ap (λ (l : List (List ℕ)). rowsOf g done ++ l) (keep-swap committed uncommitted (h .made) ∙ open-none (h .made)))))
+    refl none refl
 
 pub past-falls : {g : Ground} {done : List (List ℕ)} {h : Past} → PastRight g done h → PastRight g done (falls h)
 unfolding falls

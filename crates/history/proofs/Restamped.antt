@@ -2,7 +2,6 @@
 use Prim.Native.Nat.{ℕ, _+_, _*_, _-_, _≤_, _<_}
 use native.Mathlib.Omega.{arith}
 use mathlib.Core.Path.{_≡_, refl, sym, ap, _∙_}
-use mathlib.Core.Logic.{_⊎_, inl, inr}
 use mathlib.Core.Bool.{Bool, true, false, not, _&&_, _||_}
 use mathlib.Core.List.{List}
 use lib.ListN.{length, drop}
@@ -14,10 +13,11 @@ use Rattle.record.specs.Record.{pageOf, numberOf, applied, onPage}
 use Rattle.rules.specs.Lent.{Durable, sizeOf, pagesOf, lastOf, closedOf, loggedOf, firstOf, stampAt, stampOf, dirtyOf, pageIn, withPage}
 use Rattle.rules.specs.Sound.{every, zeros}
 use Rattle.redo.proofs.Views.{keep-same}
+use Rattle.redo.proofs.Reader.{every-both}
 use Rattle.readback.proofs.Marks.{restamped-length, restamped-front, restamped-same, restamped-other, restamped-dirty}
 use Rattle.readback.proofs.Pages.{pages-length, page-same, page-other}
-use Rattle.history.proofs.Tested.{every-two}
 use Rattle.history.proofs.Right.{Ground, DurableRight, rowsOf, aboveStamp, only}
+use Rattle.history.proofs.Facts.{dirt-same, marks-long}
 
 through : (a b c : Bool) → (not a || b) ≡ true → (not b || c) ≡ true → (not a || c) ≡ true
 through true true c h k = k
@@ -41,24 +41,21 @@ module _ {g : Ground} {done : List (List ℕ)} {d : Durable} (r : DurableRight g
   k′ : p < pagesOf (only d)
   k′ = omega (arith, r .pages)
 
-  marks-long : length (d .marks) ≡ 12 + 8 * pagesOf (only d)
-  marks-long = r .marks ∙ ap (λ (m : ℕ). 12 + 8 * m) (sym (r .pages))
-
   small : n ≤ 4294967295
   small = omega (arith, r .bound)
 
   front : (i : ℕ) → i + 4 ≤ 12 → num 4 marks i ≡ num 4 (d .marks) i
-  front = restamped-front (pagesOf (only d)) (d .marks) marks-long p n k′ small
+  front = restamped-front (pagesOf (only d)) (d .marks) (marks-long r) p n k′ small
 
   -- the page's stamp, and the others
   pub stamp-here : num 4 (restamped d p n page .marks) (stampAt p) ≡ n
-  stamp-here = restamped-same (pagesOf (only d)) (d .marks) marks-long p n k′ small
+  stamp-here = restamped-same (pagesOf (only d)) (d .marks) (marks-long r) p n k′ small
 
   pub stamp-other : (q : ℕ) → (q ≡ p → ⊥) → num 4 (restamped d p n page .marks) (stampAt q) ≡ num 4 (d .marks) (stampAt q)
-  stamp-other = restamped-other (pagesOf (only d)) (d .marks) marks-long p n k′ small
+  stamp-other = restamped-other (pagesOf (only d)) (d .marks) (marks-long r) p n k′ small
 
   dirty-now : (q : ℕ) → dirtyOf (only now) q ≡ dirtyOf (only d) q
-  dirty-now = restamped-dirty (pagesOf (only d)) (d .marks) marks-long p n k′ small
+  dirty-now = restamped-dirty (pagesOf (only d)) (d .marks) (marks-long r) p n k′ small
 
   last-now : lastOf (only now) ≡ lastOf (only d)
   last-now = front 0 (omega arith)
@@ -98,15 +95,10 @@ module _ {g : Ground} {done : List (List ℕ)} {d : Durable} (r : DurableRight g
         go true e = let f : stampOf (only now) q ≡ n = ap (λ (i : ℕ). num 4 marks (stampAt i)) (eqb-true q p e) ∙ stamp-here in omega (arith, last-now)
         go false e = omega (arith, stamp-other q (eqb-false q p e), last-now, r .stamps q h)
 
-    dirts-now : (q : ℕ) → (dirtyOf (only d) q ≡ 0) ⊎ ((firstOf (only d) ≤ dirtyOf (only d) q) × (dirtyOf (only d) q ≤ closedOf (only d)))
-        → (dirtyOf (only now) q ≡ 0) ⊎ ((firstOf (only now) ≤ dirtyOf (only now) q) × (dirtyOf (only now) q ≤ closedOf (only now)))
-    dirts-now q (inl e) = inl (dirty-now q ∙ e)
-    dirts-now q (inr e) = inr (omega (arith, first-now, dirty-now q, e .0), omega (arith, closed-now, dirty-now q, e .1))
-
     needed-now : every (λ (x : List ℕ). not (aboveStamp marks x) || leb (firstOf (only now)) (numberOf x)) (rowsOf g done) ≡ true
     needed-now =
         ap (λ (m : ℕ). every (λ (x : List ℕ). not (aboveStamp marks x) || leb m (numberOf x)) (rowsOf g done)) first-now
-        ∙ every-two (λ (x : List ℕ). not (aboveStamp marks x) || aboveStamp (d .marks) x) (λ (x : List ℕ). not (aboveStamp (d .marks) x) || leb (firstOf (only d)) (numberOf x)) (λ (x : List ℕ). not (aboveStamp marks x) || leb (firstOf (only d)) (numberOf x))
+        ∙ every-both (λ (x : List ℕ). not (aboveStamp marks x) || aboveStamp (d .marks) x) (λ (x : List ℕ). not (aboveStamp (d .marks) x) || leb (firstOf (only d)) (numberOf x)) (λ (x : List ℕ). not (aboveStamp marks x) || leb (firstOf (only d)) (numberOf x))
         (λ x. through (aboveStamp marks x) (aboveStamp (d .marks) x) (leb (firstOf (only d)) (numberOf x))) (rowsOf g done) fewer (r .needed)
 
     abbrev enters : Durable → List ℕ → Bool
@@ -119,7 +111,7 @@ module _ {g : Ground} {done : List (List ℕ)} {d : Durable} (r : DurableRight g
 
     entered-now : every (λ (x : List ℕ). not (aboveStamp marks x) || enters now x) (rowsOf g done) ≡ true
     entered-now =
-        every-two (λ (x : List ℕ). not (aboveStamp marks x) || aboveStamp (d .marks) x) (λ (x : List ℕ). not (aboveStamp (d .marks) x) || enters d x) (λ (x : List ℕ). not (aboveStamp marks x) || enters now x)
+        every-both (λ (x : List ℕ). not (aboveStamp marks x) || aboveStamp (d .marks) x) (λ (x : List ℕ). not (aboveStamp (d .marks) x) || enters d x) (λ (x : List ℕ). not (aboveStamp marks x) || enters now x)
         (λ x a b. ap (λ (t : Bool). not (aboveStamp marks x) || t) (sym (enters-now x)) ∙ through (aboveStamp marks x) (aboveStamp (d .marks) x) (enters d x) a b) (rowsOf g done) fewer (r .entered)
 
     -- the stamps of rows of another page
@@ -146,7 +138,7 @@ module _ {g : Ground} {done : List (List ℕ)} {d : Durable} (r : DurableRight g
           range = r .range;
           size = r .size;
           pages = r .pages;
-          marks = restamped-length (pagesOf (only d)) (d .marks) marks-long p n k′ small ∙ r .marks;
+          marks = restamped-length (pagesOf (only d)) (d .marks) (marks-long r) p n k′ small ∙ r .marks;
           log = r .log;
           stored = pages-length (sizeOf (only d)) (g .pages) (d .stored) area p k page full ∙ r .stored;
           last = last-now ∙ r .last;
@@ -157,7 +149,7 @@ module _ {g : Ground} {done : List (List ℕ)} {d : Durable} (r : DurableRight g
           log-zero = ap (λ (m : ℕ). zeros (drop (m * 14) (d .log))) logged-now ∙ r .log-zero;
           stamps = stamps-now;
           closed = omega (arith, closed-now, last-now, r .closed);
-          dirty = λ q h. dirts-now q (r .dirty q h);
+          dirty = λ q h. dirt-same first-now (dirty-now q) closed-now (r .dirty q h);
           first = omega (arith, first-now, closed-now, r .first);
           needed = needed-now;
           entered = entered-now;

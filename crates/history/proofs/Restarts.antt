@@ -3,23 +3,21 @@
 use Prim.Native.Nat.{ℕ, zero, suc, _+_, _-_, _≤_}
 use native.Mathlib.Omega.{arith}
 use mathlib.Core.Path.{_≡_, refl, sym, ap, _∙_, subst}
-use mathlib.Core.Bool.{Bool, true, false, not, _&&_, _||_, false≢true}
+use mathlib.Core.Bool.{Bool, true, false, not, _&&_, _||_, and-false, false≢true}
 use mathlib.Core.List.{List, [], append-nil}
 use lib.ListN.{length, drop, replicate, length-drop, length-replicate, getD-replicate}
 use lib.Dec.{eqb, leb, ltb}
 use borrow.Author.Tests.{ltb-true, ltb-false, lt-ltb, le-leb, lt-leb}
 use Rattle.record.specs.Rows.{consIf, keep}
-use Rattle.record.specs.Record.{pageOf, numberOf, entered, committed, wellFormed}
+use Rattle.record.specs.Record.{pageOf, numberOf, entered, committed}
 use Rattle.table.proofs.Laws.{Wide, none, one, wide-drop, wide-keep}
-use Rattle.rules.specs.Lent.{Lent, Lost, sizeOf, pagesOf, framesOf, roomOf, spanOf, lastOf, closedOf, loggedOf, stampOf, dirtyOf, firstOf}
+use Rattle.rules.specs.Lent.{Lent, Lost, pagesOf, framesOf, roomOf, lastOf, closedOf, loggedOf, stampOf, dirtyOf, firstOf}
 use Rattle.rules.specs.Steps.{enters, entering, enteringAll, restarted}
 use Rattle.rules.specs.Sound.{every}
 use Rattle.rules.proofs.Needed.{enters-above}
 use Rattle.onlinecheck.proofs.Rows.{and-both, every-imp}
-use Rattle.onlinecheck.proofs.Laws.{formed-page}
-use Rattle.durable.proofs.Laws.{ranged}
 use Rattle.redo.proofs.Loose.{numberedFrom, ≅-equal}
-use Rattle.redo.proofs.Numbered.{entered-page, entered-number, numberedFrom-wide, numberedFrom-formed}
+use Rattle.redo.proofs.Numbered.{entered-page, entered-number, numberedFrom-wide}
 use Rattle.redo.proofs.Views.{keep-keep, keep-same, keep-same-where}
 use Rattle.seats.proofs.Loops.{evictedEntries, evicted-length, seated-restart, restart-unframed, restart-dirty}
 use Rattle.readback.proofs.Seen.{Areas}
@@ -27,8 +25,9 @@ use Rattle.readback.proofs.Lost.{reads-restarted}
 use Rattle.history.specs.Past.{Past, falls, rises}
 use Rattle.history.specs.Run.{Fits, afterLoss}
 use Rattle.history.proofs.Right.{Ground, DurableRight, LostRight, Right, Down, rowsOf, aboveStamp}
-use Rattle.history.proofs.Tested.{every-keep}
 use Rattle.history.proofs.Settle.{settle}
+use Rattle.history.proofs.Tested.{every-keep}
+use Rattle.history.proofs.Facts.{done-paged, ranges}
 use Rattle.history.proofs.Pasts.{past-falls, past-rises, open-falls, open-rises}
 
 -- restart's rule, by the number and page of a row
@@ -77,13 +76,9 @@ front-passed c first k (suc d) (one {r = b} {rs = l} w ws) e p m h =
 ruled-same : (x : Bool) (stamp n : ℕ) → (not (ltb stamp n) || not x) ≡ true → (not x && not (leb n stamp)) ≡ ltb stamp n
 ruled-same x stamp n h = go (ltb stamp n) refl h
   where
-    none-left : (y : Bool) → (not y && false) ≡ false
-    none-left true = refl
-    none-left false = refl
-
     go : (t : Bool) → ltb stamp n ≡ t → (not t || not x) ≡ true → (not x && not (leb n stamp)) ≡ t
     go true e k = rw (k, lt-leb n stamp (ltb-true stamp n e))
-    go false e k = rw (le-leb n stamp (ltb-false stamp n e)) (none-left x)
+    go false e k = rw (le-leb n stamp (ltb-false stamp n e)) (and-false (not x))
 
 -- what enters is what no stored page holds
 pub entering-is : (g : Ground) (done : List (List ℕ)) (s : Lent) → Wide 14 done → DurableRight g done (s .durable) → enteringAll s ≡ keep (aboveStamp (s .durable .marks)) (rowsOf g done)
@@ -96,15 +91,6 @@ entering-is g done s w d =
     -- how many log records were dropped
     gone : ℕ
     gone = length done - loggedOf s
-
-    last : lastOf s ≡ g .base + length done
-    last = d .last
-
-    bound : lastOf s ≤ 4294967295
-    bound = d .bound
-
-    logged : loggedOf s ≤ length done
-    logged = d .logged-done
 
     above : List ℕ → Bool
     above r = aboveStamp (s .durable .marks) r
@@ -124,21 +110,14 @@ entering-is g done s w d =
 pub restart-fits : {g : Ground} {done : List (List ℕ)} {h : Past} {s : Lent} → Down g done h s → length (enteringAll s) ≤ roomOf s
 restart-fits {g} {done} {h} {s} d = omega (arith, ap (λ (l : List (List ℕ)). length l) (entering-is g done s (d .past .done-wide) (d .durable)), d .durable .fits)
 
--- the pages of the committed updates that no stored page holds are pages of the store
-pub rows-below : (g : Ground) (done : List (List ℕ)) (marks : List ℕ) → Wide 14 done → every (wellFormed (g .size) (g .pages)) done ≡ true
-    → every (λ (r : List ℕ). ltb (pageOf r) (g .pages)) (keep (aboveStamp marks) (rowsOf g done)) ≡ true
-rows-below g done marks w f =
-    every-keep (aboveStamp marks) (λ (r : List ℕ). ltb (pageOf r) (g .pages)) (rowsOf g done)
-    (formed-page (g .size) (g .pages) (rowsOf g done) (numberedFrom-formed (g .size) (g .pages) (g .base + 1) w f))
-
 -- with nobody live and no page in a frame, online is what no stored page holds
 module _ (g : Ground) (done : List (List ℕ)) (live : ℕ → Bool) (frames pages : ℕ) (marks stored pool : List ℕ) (rs : List (List ℕ)) where
-  lost-risen : rs ≡ keep (aboveStamp marks) (rowsOf g done) → pages ≡ g .pages → every (λ (r : List ℕ). ltb (pageOf r) pages) rs ≡ true → ((x : ℕ) → live x ≡ false)
+  lost-risen : rs ≡ keep (aboveStamp marks) (rowsOf g done) → pages ≡ g .pages → ((x : ℕ) → live x ≡ false)
       → LostRight g done [] live frames marks stored pool [] (replicate 32 0) (evictedEntries rs (replicate pages 0)) rs
   unfolding every
-  lost-risen e n b dead =
+  lost-risen e n dead =
       record {
-        seated = seated-restart frames pages rs b;
+        seated = seated-restart frames pages rs;
         entries-length = evicted-length rs (replicate pages 0) ∙ length-replicate {A = ℕ} pages 0 ∙ n;
         lives-length = refl;
         lives-bits = refl;
@@ -152,11 +131,11 @@ module _ (g : Ground) (done : List (List ℕ)) (live : ℕ → Bool) (frames pag
 pub keeps-restart : {g : Ground} {done : List (List ℕ)} {h : Past} {s : Lent} → Down g done h s → Right g done (rises h) (restarted s .lent)
 unfolding restarted rises
 keeps-restart {g} {done} {h} {s} d =
-    settle (reads-restarted s (d .areas) (ranged (sizeOf s) (pagesOf s) (framesOf s) (roomOf s) (spanOf s) (d .durable .range) .room-most) (restart-fits d) wide below)
+    settle (reads-restarted s (d .areas) (ranges (d .durable) .room-most) (restart-fits d) wide below)
     (past-rises (d .past)) (d .durable)
     (subst (λ (o : List (List ℕ)). LostRight g done o (λ (x : ℕ). false) (framesOf s) marks (s .durable .stored) (s .lost .pool) [] (replicate 32 0) (evictedEntries (enteringAll s) (replicate (pagesOf s) 0)) (enteringAll s))
     (sym (open-rises h))
-    (lost-risen g done (λ (x : ℕ). false) (framesOf s) (pagesOf s) marks (s .durable .stored) (s .lost .pool) (enteringAll s) is (d .durable .pages) below (λ x. refl)))
+    (lost-risen g done (λ (x : ℕ). false) (framesOf s) (pagesOf s) marks (s .durable .stored) (s .lost .pool) (enteringAll s) is (d .durable .pages) (λ x. refl)))
   where
     marks : List ℕ
     marks = s .durable .marks
@@ -171,7 +150,7 @@ keeps-restart {g} {done} {h} {s} d =
     below =
         ap (λ (n : ℕ). every (λ (r : List ℕ). ltb (pageOf r) n) (enteringAll s)) (d .durable .pages)
         ∙ ap (λ (l : List (List ℕ)). every (λ (r : List ℕ). ltb (pageOf r) (g .pages)) l) is
-        ∙ rows-below g done marks (d .past .done-wide) (d .past .formed)
+        ∙ every-keep (aboveStamp marks) (λ (r : List ℕ). ltb (pageOf r) (g .pages)) (rowsOf g done) (done-paged (d .past))
 
 -- a power loss leaves the durable part as it is, and the lost areas with their lengths
 areas-fit : {s : Lent} (l : Lost) → Fits s l → Areas s → Areas (afterLoss s l)

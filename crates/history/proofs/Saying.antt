@@ -16,7 +16,7 @@ use Rattle.rules.specs.declared.Refusal.the-variants.{NotSound, Argument, Short
 use Rattle.rules.specs.declared.Verdict.{Verdict}
 use Rattle.rules.specs.declared.Verdict.the-variants.{Go, Refuse}
 use Rattle.rules.specs.Lent.{Lent, sizeOf, pagesOf, roomOf, spanOf, lastOf, loggedOf, countOf, onlineOf}
-use Rattle.rules.specs.Sound.{sound, between}
+use Rattle.rules.specs.Sound.{between}
 use Rattle.rules.specs.Steps.{owned}
 use Rattle.rules.specs.Calls.{refuseIf, checked, isNumber, isLive, held, mayBegin, mayRead, mayUpdate, mayCommit, mayAbort, judgeBegin, judgeRead, judgeUpdate, judgeCommit, judgeAbort}
 use Rattle.onlinecheck.proofs.Rows.{and-both}

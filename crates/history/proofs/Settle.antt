@@ -1,10 +1,9 @@
 -- From what the bytes say as lists to the invariant: each step shows the two apart and puts them together here.
 use Prim.Native.Nat.{ℕ}
-use mathlib.Core.Path.{_≡_, sym, subst}
+use mathlib.Core.Path.{sym, subst}
 use mathlib.Core.List.{List}
-use lib.ListN.{length}
-use Rattle.rules.specs.Lent.{Lent, framesOf, roomOf, pagesOf, countOf, usedOf, orderOf, entriesOf, onlineOf}
-use Rattle.readback.proofs.Seen.{Areas, Reads, Whole, livesOf}
+use Rattle.rules.specs.Lent.{Lent, framesOf, orderOf, entriesOf, onlineOf}
+use Rattle.readback.proofs.Seen.{Reads, livesOf}
 use Rattle.history.specs.Past.{Past}
 use Rattle.history.proofs.Right.{Ground, PastRight, DurableRight, LostRight, Right, openOf}
 

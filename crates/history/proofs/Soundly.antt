@@ -8,22 +8,27 @@ use mathlib.Core.Bool.{Bool, true, false, not, _&&_, _||_}
 use mathlib.Core.List.{List, [], _∷_, _++_}
 use lib.ListN.{length, getD, drop}
 use lib.Seq.{getD-drop}
-use lib.Dec.{eqb, leb, ltb}
-use borrow.Author.Tests.{eq-eqb, ne-eqb, eqb-true, eqb-false, le-leb, leb-true, ltb-true, not-true}
+use lib.Dec.{eqb, leb}
+use borrow.Author.Tests.{eq-eqb, eqb-true, eqb-false, le-leb, leb-true, ltb-true, not-true}
 use Rattle.record.specs.Part.{part}
 use Rattle.record.specs.Rows.{rowAt, rows, keep, any}
 use Rattle.record.specs.Record.{ownerOf, numberOf, committed, bodyOf, onPage, entered, wellFormed, shareByte}
-use Rattle.record.proofs.Laws.{getD-part}
+use Rattle.rules.specs.Lent.{Lent, sizeOf, pagesOf, framesOf, roomOf, spanOf, lastOf, closedOf, loggedOf, stampOf, dirtyOf, firstOf, logOf, countOf, usedOf, liveOf, entriesOf, onlineOf, isDirty}
+use Rattle.rules.specs.Sound.{every, pairs, upTo, zeros, between, inRange, agree, apart, same, owning, exactLengths, s1-parameters, s2-lengths, s3-logged, s16-logged, s18-first, s15-stamps, s17-s19-dirty, s7-log-records, s14-log-zero, soundDurable, s3-counts, s20-live, s4-entries, s5-frame-once, s6-order, s14-order-zero, s7-online-records, s8-owners, s14-online-zero, s10-in-log, s11-above-stamp, s9-number-once, s12-dirty, s13-apart, soundLost, sound}
+use Rattle.rules.proofs.Every.{or-left, or-right}
 use Rattle.onlinecheck.proofs.Rows.{and-both, every-imp}
-use Rattle.rules.specs.Lent.{Lent, sizeOf, pagesOf, framesOf, roomOf, spanOf, lastOf, closedOf, loggedOf, stampOf, dirtyOf, firstOf, logOf, countOf, usedOf, liveOf, orderOf, entriesOf, onlineOf, isDirty}
-use Rattle.rules.specs.Sound.{every, pairs, upTo, zeros, between, inRange, agree, apart, same, serving, times, owning, exactLengths, s1-parameters, s2-lengths, s3-logged, s16-logged, s18-first, s15-stamps, s17-s19-dirty, s7-log-records, s14-log-zero, soundDurable, s3-counts, s20-live, s4-entries, s5-frame-once, s6-order, s14-order-zero, s7-online-records, s8-owners, s14-online-zero, s10-in-log, s11-above-stamp, s9-number-once, s12-dirty, s13-apart, soundLost, sound}
 use Rattle.redo.proofs.Order.{free, free-sym, pairs-imp}
-use Rattle.redo.proofs.Loose.{≅-sym, ≅-every, ≅-pairs-true}
-use Rattle.redo.proofs.Numbered.{entered-committed, entered-number, entered-bytes, numberedFrom-committed, numberedFrom-formed, numberedFrom-rising}
-use Rattle.readback.proofs.Seen.{Areas, Whole}
+use Rattle.redo.proofs.Views.{rising}
+use Rattle.redo.proofs.Loose.{≅-sym, ≅-pairs-true}
+use Rattle.redo.proofs.Numbered.{entered-committed, entered-number, entered-bytes}
+use Rattle.redo.proofs.Reader.{every-both}
+use Rattle.seats.proofs.Places.{seated-s5, seated-s6}
+use Rattle.readback.proofs.Seen.{Areas}
+use Rattle.readback.proofs.Lost.{live-whole}
 use Rattle.history.specs.Past.{Past}
-use Rattle.history.proofs.Tested.{and-in, or-left, or-right, upTo-all, every-drop, every-append, every-all, every-two, every-kept, every-keep, pairs-keep, same-itself, rows-at, every-numbered}
-use Rattle.history.proofs.Right.{Ground, rowsOf, uncommitted, openOf, aboveStamp, openRow, DurableRight, Right}
+use Rattle.history.proofs.Right.{Ground, rowsOf, openOf, aboveStamp, DurableRight, Right}
+use Rattle.history.proofs.Tested.{and-in, upTo-all, every-drop, every-append, every-all, every-keep, pairs-keep, same-itself, rows-at, every-numbered}
+use Rattle.history.proofs.Facts.{done-formed, done-committed, done-rising, open-every, marks-long, stored-long, logged-last, online-every, online-each}
 
 module _ (g : Ground) (done : List (List ℕ)) (s : Lent) (d : DurableRight g done (s .durable)) where
   has-parameters : s1-parameters s ≡ true
@@ -33,12 +38,10 @@ module _ (g : Ground) (done : List (List ℕ)) (s : Lent) (d : DurableRight g do
   has-lengths : Areas s → s2-lengths s ≡ true
   unfolding s2-lengths exactLengths
   has-lengths a =
-      let marks : length (s .durable .marks) ≡ 12 + 8 * pagesOf s = d .marks ∙ ap (λ (n : ℕ). 12 + 8 * n) (sym (d .pages)) in
-      let stored : length (s .durable .stored) ≡ sizeOf s * pagesOf s = d .stored ∙ ap (λ (n : ℕ). n * g .pages) (sym (d .size)) ∙ ap (λ (n : ℕ). sizeOf s * n) (sym (d .pages)) in
       rw (
-        eq-eqb (length (s .durable .marks)) (12 + 8 * pagesOf s) marks,
+        eq-eqb (length (s .durable .marks)) (12 + 8 * pagesOf s) (marks-long d),
         eq-eqb (length (s .durable .log)) (14 * spanOf s) (d .log),
-        eq-eqb (length (s .durable .stored)) (sizeOf s * pagesOf s) stored,
+        eq-eqb (length (s .durable .stored)) (sizeOf s * pagesOf s) (stored-long d),
         eq-eqb (length (s .lost .tables)) (35 + framesOf s + pagesOf s) (a .tables),
         eq-eqb (length (s .lost .online)) (19 * roomOf s) (a .online),
         eq-eqb (length (s .lost .pool)) (sizeOf s * framesOf s) (a .pool),
@@ -48,12 +51,9 @@ module _ (g : Ground) (done : List (List ℕ)) (s : Lent) (d : DurableRight g do
   unfolding s3-logged
   few-logged = le-leb (loggedOf s) (spanOf s) (d .logged)
 
-  logged-last : loggedOf s ≤ lastOf s
-  logged-last = omega (arith, d .logged-done, d .last)
-
   n-below : s16-logged s ≡ true
   unfolding s16-logged
-  n-below = le-leb (loggedOf s) (lastOf s) logged-last
+  n-below = le-leb (loggedOf s) (lastOf s) (logged-last d)
 
   first-below : s18-first s ≡ true
   unfolding s18-first
@@ -97,36 +97,6 @@ pub durable-sound : (g : Ground) (done : List (List ℕ)) (s : Lent) → Durable
 unfolding soundDurable
 durable-sound g done s d formed areas =
     rw (has-parameters g done s d, has-lengths g done s d areas, few-logged g done s d, n-below g done s d, first-below g done s d, stamps-below g done s d, dirty-between g done s d, log-formed g done s d formed, log-clear g done s d)
-
--- the lengths of the lost areas
-pub right-areas : (s : Lent) → Whole s → Areas s
-right-areas s w = w .areas
-
--- what is said of an uncommitted record
-pub record OpenFacts (g : Ground) (live : ℕ → Bool) (r : List ℕ) : Type 0 where
-  pub formed : wellFormed (g .size) (g .pages) r ≡ true
-  pub low : 1 ≤ ownerOf r
-  pub high : ownerOf r ≤ 32
-  pub number : numberOf r ≡ 0
-  pub alive : live (ownerOf r) ≡ true
-  pub owned : committed r ≡ false
-
-pub open-facts : (g : Ground) (live : ℕ → Bool) (r : List ℕ) → openRow g live r ≡ true → OpenFacts g live r
-unfolding openRow
-open-facts g live r h =
-    let a = and-both (wellFormed (g .size) (g .pages) r && between 1 (ownerOf r) 32 && eqb (numberOf r) 0) (live (ownerOf r)) h in
-    let b = and-both (wellFormed (g .size) (g .pages) r && between 1 (ownerOf r) 32) (eqb (numberOf r) 0) (a .0) in
-    let c = and-both (wellFormed (g .size) (g .pages) r) (between 1 (ownerOf r) 32) (b .0) in
-    let d = and-both (leb 1 (ownerOf r)) (leb (ownerOf r) 32) (c .1) in
-    let low : 1 ≤ ownerOf r = leb-true 1 (ownerOf r) (d .0) in
-    record {
-      formed = c .0;
-      low = low;
-      high = leb-true (ownerOf r) 32 (d .1);
-      number = eqb-true (numberOf r) 0 (b .1);
-      alive = a .1;
-      owned = ne-eqb (ownerOf r) 0 (λ e. omega arith);
-    }
 
 -- S8 of a committed record, and of an uncommitted one
 owning-committed : (s : Lent) (r : List ℕ) → committed r ≡ true → 1 ≤ numberOf r → numberOf r ≤ lastOf s → owning s r ≡ true
@@ -212,25 +182,9 @@ log-at n logged i j log done e h f =
     ap (λ (k : ℕ). rowAt 14 log k) z ∙ sym (rows-at 14 logged log 0 j h) ∙ ap (λ (l : List (List ℕ)). getD l j []) e ∙ getD-drop (n - logged) done j [] ∙ ap (λ (k : ℕ). getD done k []) f
 
 module _ (g : Ground) (done : List (List ℕ)) (h : Past) (s : Lent) (x : Right g done h s) where
-  -- a test that the committed records pass where they are above their pages' stamps, and the uncommitted ones pass, each online record passes
-  online-every : (c : List ℕ → Bool) → every (λ (r : List ℕ). not (aboveStamp (s .durable .marks) r) || c r) (rowsOf g done) ≡ true → every c (openOf h) ≡ true → every c (onlineOf s) ≡ true
-  online-every c p q =
-      ≅-every c (x .lost .online-is)
-      ∙ every-append c (keep (aboveStamp (s .durable .marks)) (rowsOf g done)) (openOf h) (every-kept (aboveStamp (s .durable .marks)) c (rowsOf g done) p) q
-
-  -- one that each committed record passes, by its place
+  -- a test that each committed record passes, by its place
   done-every : (c : List ℕ → Bool) → ((i : ℕ) → i < length done → length (getD done i []) ≡ 14 → c (entered (getD done i []) (g .base + 1 + i)) ≡ true) → every c (rowsOf g done) ≡ true
   done-every c f = every-numbered c (g .base + 1) done (x .past .done-wide) f
-
-  also : (c : List ℕ → Bool) → every c (rowsOf g done) ≡ true → every (λ (r : List ℕ). not (aboveStamp (s .durable .marks) r) || c r) (rowsOf g done) ≡ true
-  also c p = every-imp c (λ (r : List ℕ). not (aboveStamp (s .durable .marks) r) || c r) (λ r. or-right (not (aboveStamp (s .durable .marks) r)) (c r)) (rowsOf g done) p
-
-  -- one that follows from what is said of uncommitted records
-  open-every : (c : List ℕ → Bool) → ((r : List ℕ) → OpenFacts g (h .live) r → c r ≡ true) → every c (openOf h) ≡ true
-  open-every c f = every-imp (openRow g (h .live)) c (λ r e. f r (open-facts g (h .live) r e)) (openOf h) (x .past .open-rows)
-
-  pub done-committed : every committed (rowsOf g done) ≡ true
-  done-committed = numberedFrom-committed (g .base + 1) (x .past .done-wide)
 
   counts-within : s3-counts s ≡ true
   unfolding s3-counts
@@ -249,14 +203,11 @@ module _ (g : Ground) (done : List (List ℕ)) (h : Past) (s : Lent) (x : Right 
 
   frames-once : s5-frame-once s ≡ true
   unfolding s5-frame-once
-  frames-once = upTo-all (λ (f : ℕ). leb (serving f (entriesOf s)) 1) (framesOf s) (λ f p. le-leb (serving f (entriesOf s)) 1 (x .lost .seated .once f p))
+  frames-once = seated-s5 (x .lost .seated)
 
   order-right : s6-order s ≡ true
   unfolding s6-order
-  order-right =
-      and-in (every (λ (f : ℕ). ltb f (framesOf s)) (orderOf s)) (upTo (λ (f : ℕ). eqb (times f (orderOf s)) (serving f (entriesOf s))) (framesOf s) 0)
-      (x .lost .seated .order-within)
-      (upTo-all (λ (f : ℕ). eqb (times f (orderOf s)) (serving f (entriesOf s))) (framesOf s) (λ f p. eq-eqb (times f (orderOf s)) (serving f (entriesOf s)) (x .lost .seated .named f p)))
+  order-right = seated-s6 (x .lost .seated)
 
   order-clear : s14-order-zero s ≡ true
   unfolding s14-order-zero
@@ -271,15 +222,11 @@ module _ (g : Ground) (done : List (List ℕ)) (h : Past) (s : Lent) (x : Right 
   online-formed =
       ap (λ (n : ℕ). every (wellFormed n (pagesOf s)) (onlineOf s)) (x .durable .size)
       ∙ ap (λ (n : ℕ). every (wellFormed (g .size) n) (onlineOf s)) (x .durable .pages)
-      ∙ online-every (wellFormed (g .size) (g .pages))
-      (also (wellFormed (g .size) (g .pages)) (numberedFrom-formed (g .size) (g .pages) (g .base + 1) (x .past .done-wide) (x .past .formed)))
-      (open-every (wellFormed (g .size) (g .pages)) (λ r f. f .formed))
+      ∙ online-each x (wellFormed (g .size) (g .pages)) (done-formed (x .past)) (open-every (x .past) (wellFormed (g .size) (g .pages)) (λ r f. f .formed))
 
   -- the live byte of a number is its place in the live set
   pub live-byte : (y : ℕ) → 1 ≤ y → y ≤ 32 → eqb (liveOf s y) 1 ≡ h .live y
-  live-byte y low high =
-      ap (λ (n : ℕ). eqb n 1) (ap (λ (n : ℕ). getD (s .lost .tables) n 0) (omega arith) ∙ sym (getD-part (y - 1) 3 32 (s .lost .tables) (omega arith)))
-      ∙ x .lost .alive y low high
+  live-byte y low high = ap (λ (n : ℕ). eqb n 1) (live-whole s y (x .whole) low high) ∙ x .lost .alive y low high
 
   number-of : (i : ℕ) → i < length done → length (getD done i []) ≡ 14 → numberOf (entered (getD done i []) (g .base + 1 + i)) ≡ g .base + 1 + i
   number-of i p q = entered-number (getD done i []) (g .base + 1 + i) q (omega (arith, x .durable .last, x .durable .bound))
@@ -287,11 +234,11 @@ module _ (g : Ground) (done : List (List ℕ)) (h : Past) (s : Lent) (x : Right 
   owners-right : s8-owners s ≡ true
   unfolding s8-owners
   owners-right =
-      online-every (owning s)
-      (also (owning s) (done-every (owning s) (λ i p q.
+      online-each x (owning s)
+      (done-every (owning s) (λ i p q.
       let n : numberOf (entered (getD done i []) (g .base + 1 + i)) ≡ g .base + 1 + i = number-of i p q in
-      owning-committed s (entered (getD done i []) (g .base + 1 + i)) (entered-committed (getD done i []) (g .base + 1 + i) q) (omega (arith, n)) (omega (arith, n, x .durable .last)))))
-      (open-every (owning s) (λ r f. owning-open s r (f .owned) (f .high) (f .number) (live-byte (ownerOf r) (f .low) (f .high) ∙ f .alive)))
+      owning-committed s (entered (getD done i []) (g .base + 1 + i)) (entered-committed (getD done i []) (g .base + 1 + i) q) (omega (arith, n)) (omega (arith, n, x .durable .last))))
+      (open-every (x .past) (owning s) (λ r f. owning-open s r (f .owned) (f .high) (f .number) (live-byte (ownerOf r) (f .low) (f .high) ∙ f .alive)))
 
   -- each committed record within the log's numbers is the log's record of its number
   abbrev is-logged : List ℕ → Bool
@@ -315,19 +262,19 @@ module _ (g : Ground) (done : List (List ℕ)) (h : Past) (s : Lent) (x : Right 
   online-logged : s10-in-log s ≡ true
   unfolding s10-in-log
   online-logged =
-      online-every (λ (r : List ℕ). not (committed r) || (leb (firstOf s) (numberOf r) && is-logged r))
-      (every-two (λ (r : List ℕ). not (aboveStamp (s .durable .marks) r) || leb (firstOf s) (numberOf r)) (λ (r : List ℕ). not (leb (firstOf s) (numberOf r)) || is-logged r)
+      online-every x (λ (r : List ℕ). not (committed r) || (leb (firstOf s) (numberOf r) && is-logged r))
+      (every-both (λ (r : List ℕ). not (aboveStamp (s .durable .marks) r) || leb (firstOf s) (numberOf r)) (λ (r : List ℕ). not (leb (firstOf s) (numberOf r)) || is-logged r)
       (λ (r : List ℕ). not (aboveStamp (s .durable .marks) r) || (not (committed r) || (leb (firstOf s) (numberOf r) && is-logged r)))
       (λ r p q. in-log (aboveStamp (s .durable .marks) r) (leb (firstOf s) (numberOf r)) (is-logged r) (committed r) p q)
       (rowsOf g done) (x .durable .needed) done-logged)
-      (open-every (λ (r : List ℕ). not (committed r) || (leb (firstOf s) (numberOf r) && is-logged r)) (λ r f. or-left (not (committed r)) (leb (firstOf s) (numberOf r) && is-logged r) (ap not (f .owned))))
+      (open-every (x .past) (λ (r : List ℕ). not (committed r) || (leb (firstOf s) (numberOf r) && is-logged r)) (λ r f. or-left (not (committed r)) (leb (firstOf s) (numberOf r) && is-logged r) (ap not (f .owned))))
 
   online-above : s11-above-stamp s ≡ true
   unfolding s11-above-stamp
   online-above =
-      online-every (λ (r : List ℕ). not (committed r) || aboveStamp (s .durable .marks) r)
+      online-every x (λ (r : List ℕ). not (committed r) || aboveStamp (s .durable .marks) r)
       (every-all (λ (r : List ℕ). not (aboveStamp (s .durable .marks) r) || (not (committed r) || aboveStamp (s .durable .marks) r)) (λ r. pick (aboveStamp (s .durable .marks) r) (committed r)) (rowsOf g done))
-      (open-every (λ (r : List ℕ). not (committed r) || aboveStamp (s .durable .marks) r) (λ r f. or-left (not (committed r)) (aboveStamp (s .durable .marks) r) (ap not (f .owned))))
+      (open-every (x .past) (λ (r : List ℕ). not (committed r) || aboveStamp (s .durable .marks) r) (λ r f. or-left (not (committed r)) (aboveStamp (s .durable .marks) r) (ap not (f .owned))))
     where
       pick : (a c : Bool) → (not a || (not c || a)) ≡ true
       pick true true = refl
@@ -339,8 +286,8 @@ module _ (g : Ground) (done : List (List ℕ)) (h : Past) (s : Lent) (x : Right 
   number-once =
       ≅-pairs-true differ differ-sym (≅-sym (x .lost .online-is))
       (differ-append (keep (aboveStamp (s .durable .marks)) (rowsOf g done)) (openOf h)
-      (pairs-keep (aboveStamp (s .durable .marks)) differ (rowsOf g done) (pairs-imp (λ (a b : List ℕ). ltb (numberOf a) (numberOf b)) differ (λ a b e. differ-by a b (λ n. absurd (omega (arith, ltb-true (numberOf a) (numberOf b) e)))) (rowsOf g done) (numberedFrom-rising (g .base + 1) (x .past .done-wide) (omega (arith, x .durable .last, x .durable .bound)))))
-      (open-every (λ (r : List ℕ). eqb (numberOf r) 0) (λ r f. eq-eqb (numberOf r) 0 (f .number))))
+      (pairs-keep (aboveStamp (s .durable .marks)) differ (rowsOf g done) (pairs-imp rising differ (λ a b e. differ-by a b (λ n. absurd (omega (arith, ltb-true (numberOf a) (numberOf b) e)))) (rowsOf g done) (done-rising (x .past))))
+      (open-every (x .past) (λ (r : List ℕ). eqb (numberOf r) 0) (λ r f. eq-eqb (numberOf r) 0 (f .number))))
 
   dirty-right : s12-dirty s ≡ true
   unfolding s12-dirty
@@ -352,7 +299,7 @@ module _ (g : Ground) (done : List (List ℕ)) (h : Past) (s : Lent) (x : Right 
   unfolding s13-apart
   online-apart =
       ≅-pairs-true apart apart-sym (≅-sym (x .lost .online-is))
-      (apart-append (keep (aboveStamp (s .durable .marks)) (rowsOf g done)) (openOf h) (every-keep (aboveStamp (s .durable .marks)) committed (rowsOf g done) done-committed) (x .past .apart))
+      (apart-append (keep (aboveStamp (s .durable .marks)) (rowsOf g done)) (openOf h) (every-keep (aboveStamp (s .durable .marks)) committed (rowsOf g done) (done-committed (x .past))) (x .past .apart))
 
 -- what every call but format and restart checks
 pub right-sound : (g : Ground) (done : List (List ℕ)) (h : Past) (s : Lent) → Right g done h s → sound s ≡ true

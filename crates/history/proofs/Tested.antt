@@ -7,42 +7,32 @@ use mathlib.Core.Bool.{Bool, true, false, not, _&&_, _||_}
 use mathlib.Core.List.{List, [], _∷_, _++_}
 use lib.ListN.{length, getD, drop}
 use lib.Dec.{eqb}
-use borrow.Author.Tests.{eq-eqb, not-true}
+use borrow.Author.Tests.{eq-eqb}
 use Rattle.record.specs.Rows.{rowAt, rows, keep, consIf, any}
 use Rattle.record.specs.Record.{entered}
-use Rattle.onlinecheck.proofs.Rows.{and-both, every-imp}
-use Rattle.table.proofs.Laws.{Wide, none, one, keep-no}
+use Rattle.table.proofs.Laws.{Wide, none, one}
 use Rattle.rules.specs.Sound.{every, pairs, upTo, same}
-use Rattle.redo.proofs.Loose.{numberedFrom}
+use Rattle.onlinecheck.proofs.Rows.{and-both}
+use Rattle.redo.proofs.View.{keep-append}
+use Rattle.redo.proofs.Views.{keep-none}
+use Rattle.redo.proofs.Loose.{_≅_, numberedFrom, ≅-every}
+use Rattle.redo.proofs.Reader.{every-kept-where}
+use Rattle.seats.proofs.Loops.{any-by}
+use Rattle.seats.proofs.Counting.{upTo-all as upTo-from}
 
--- tests together, and a test that holds on one side
+-- tests together, and what follows from a test that holds
 pub and-in : (a b : Bool) → a ≡ true → b ≡ true → (a && b) ≡ true
 and-in a b h k = rw (h, k)
 
-pub or-left : (a b : Bool) → a ≡ true → (a || b) ≡ true
-or-left a b h = rw h
-
-pub or-right : (a b : Bool) → b ≡ true → (a || b) ≡ true
-or-right true b h = refl
-or-right false b h = h
-
-pub or-of : (a b : Bool) → a ≡ true → (not a || b) ≡ true → b ≡ true
+or-of : (a b : Bool) → a ≡ true → (not a || b) ≡ true → b ≡ true
 or-of true b h k = k
 or-of false b h k = let z : _≡_ {A = ℕ} 0 1 = cc in absurd (omega arith)
 
 -- each of n numbers passes a test
-upTo-from : (b : ℕ → Bool) (n a : ℕ) → ((i : ℕ) → i < n → b (a + i) ≡ true) → upTo b n a ≡ true
-unfolding upTo
-upTo-from b zero a h = refl
-upTo-from b (suc n) a h =
-    and-in (b a) (upTo b n (a + 1))
-    (ap b (omega arith) ∙ h 0 (omega arith))
-    (upTo-from b n (a + 1) (λ i k. ap b (omega arith) ∙ h (suc i) (omega arith)))
-
 pub upTo-all : (b : ℕ → Bool) (n : ℕ) → ((i : ℕ) → i < n → b i ≡ true) → upTo b n 0 ≡ true
 upTo-all b n h = upTo-from b n 0 (λ i k. ap b (omega arith) ∙ h i k)
 
--- every row: behind some, all, appended, two tests at once
+-- every row: behind some, all, appended, before others
 pub every-drop : (b : List ℕ → Bool) (n : ℕ) (l : List (List ℕ)) → every b l ≡ true → every b (drop n l) ≡ true
 unfolding every
 every-drop b zero l h = h
@@ -61,30 +51,37 @@ every-append b (r ∷ l) m h k =
     let e : (b r ≡ true) × (every b l ≡ true) = and-both (b r) (every b l) h in
     and-in (b r) (every b (l ++ m)) (e .0) (every-append b l m (e .1) k)
 
-pub every-two : (a b c : List ℕ → Bool) → ((r : List ℕ) → a r ≡ true → b r ≡ true → c r ≡ true) → (l : List (List ℕ)) → every a l ≡ true → every b l ≡ true → every c l ≡ true
+pub every-front : (c : List ℕ → Bool) (l m : List (List ℕ)) → every c (l ++ m) ≡ true → every c l ≡ true
 unfolding every
-every-two a b c f [] h k = refl
-every-two a b c f (r ∷ l) h k =
-    let d : (a r ≡ true) × (every a l ≡ true) = and-both (a r) (every a l) h in
-    let e : (b r ≡ true) × (every b l ≡ true) = and-both (b r) (every b l) k in
-    and-in (c r) (every c l) (f r (d .0) (e .0)) (every-two a b c f l (d .1) (e .1))
+every-front c [] m h = refl
+every-front c (r ∷ l) m h =
+    let e : (c r ≡ true) × (every c (l ++ m) ≡ true) = and-both (c r) (every c (l ++ m)) h in
+    and-in (c r) (every c l) (e .0) (every-front c l m (e .1))
 
--- those kept pass the test that kept them, and whatever follows from it
-pub every-kept : (a c : List ℕ → Bool) (l : List (List ℕ)) → every (λ (r : List ℕ). not (a r) || c r) l ≡ true → every c (keep a l) ≡ true
-unfolding every keep
-every-kept a c [] h = refl
-every-kept a c (r ∷ l) h =
-    let e : ((not (a r) || c r) ≡ true) × (every (λ (q : List ℕ). not (a q) || c q) l ≡ true) = and-both (not (a r) || c r) (every (λ (q : List ℕ). not (a q) || c q) l) h in
-    pick (a r) refl (e .0) (every-kept a c l (e .1))
-  where
-    pick : (t : Bool) → a r ≡ t → (not (a r) || c r) ≡ true → every c (keep a l) ≡ true → every c (consIf t r (keep a l)) ≡ true
-    pick true e h k = and-in (c r) (every c (keep a l)) (or-of (a r) (c r) e h) k
-    pick false e h k = k
-
+-- those kept: what all pass, what follows from the test that kept them; and that told of all
 pub every-keep : (a c : List ℕ → Bool) (l : List (List ℕ)) → every c l ≡ true → every c (keep a l) ≡ true
-every-keep a c l h = every-kept a c l (every-imp c (λ (r : List ℕ). not (a r) || c r) (λ r. or-right (not (a r)) (c r)) l h)
+every-keep a c l h = every-kept-where a c c (λ r e k. k) l h
 
--- each two: of those kept; appended to ones that each pass with all that follow
+pub every-picked : (a c : List ℕ → Bool) (l : List (List ℕ)) → every (λ (r : List ℕ). not (a r) || c r) l ≡ true → every c (keep a l) ≡ true
+every-picked a c l h = every-kept-where a (λ (r : List ℕ). not (a r) || c r) c (λ r e k. or-of (a r) (c r) e k) l h
+
+pub picked-every : (a c : List ℕ → Bool) (l : List (List ℕ)) → every c (keep a l) ≡ true → every (λ (r : List ℕ). not (a r) || c r) l ≡ true
+unfolding every keep
+picked-every a c [] h = refl
+picked-every a c (r ∷ l) h = pick (a r) (picked-every a c l) h
+  where
+    pick : (t : Bool) → (every c (keep a l) ≡ true → every (λ (q : List ℕ). not (a q) || c q) l ≡ true) → every c (consIf t r (keep a l)) ≡ true → ((not t || c r) && every (λ (q : List ℕ). not (a q) || c q) l) ≡ true
+    pick true f k =
+        let e : (c r ≡ true) × (every c (keep a l) ≡ true) = and-both (c r) (every c (keep a l)) k in
+        and-in (c r) (every (λ (q : List ℕ). not (a q) || c q) l) (e .0) (f (e .1))
+    pick false f k = f k
+
+-- rows that are those picked, then others, but for swaps: each passes what they pass
+pub online-all : (above : List ℕ → Bool) (rows opened : List (List ℕ)) {online : List (List ℕ)} → online ≅ keep above rows ++ opened
+    → (c : List ℕ → Bool) → every (λ (r : List ℕ). not (above r) || c r) rows ≡ true → every c opened ≡ true → every c online ≡ true
+online-all above rows opened is c h k = ≅-every c is ∙ every-append c (keep above rows) opened (every-picked above c rows h) k
+
+-- each two of those kept
 pub pairs-keep : (a : List ℕ → Bool) (b : List ℕ → List ℕ → Bool) (l : List (List ℕ)) → pairs b l ≡ true → pairs b (keep a l) ≡ true
 unfolding pairs keep
 pairs-keep a b [] h = refl
@@ -97,19 +94,11 @@ pairs-keep a b (r ∷ l) h =
     pick false h k = k
 
 -- rows of which none passes, before others
-pub any-behind : (c : List ℕ → Bool) (l m : List (List ℕ)) → every (λ (r : List ℕ). not (c r)) l ≡ true → any c (l ++ m) ≡ any c m
-unfolding every any
-any-behind c [] m h = refl
-any-behind c (r ∷ l) m h =
-    let e : (not (c r) ≡ true) × (every (λ (q : List ℕ). not (c q)) l ≡ true) = and-both (not (c r)) (every (λ (q : List ℕ). not (c q)) l) h in
-    ap (λ (t : Bool). t || any c (l ++ m)) (not-true (c r) (e .0)) ∙ any-behind c l m (e .1)
-
 pub keep-behind : (c : List ℕ → Bool) (l m : List (List ℕ)) → every (λ (r : List ℕ). not (c r)) l ≡ true → keep c (l ++ m) ≡ keep c m
-unfolding every
-keep-behind c [] m h = refl
-keep-behind c (r ∷ l) m h =
-    let e : (not (c r) ≡ true) × (every (λ (q : List ℕ). not (c q)) l ≡ true) = and-both (not (c r)) (every (λ (q : List ℕ). not (c q)) l) h in
-    keep-no c r (l ++ m) (not-true (c r) (e .0)) ∙ keep-behind c l m (e .1)
+keep-behind c l m h = keep-append c l m ∙ ap (λ (k : List (List ℕ)). k ++ keep c m) (keep-none c l h)
+
+pub any-behind : (c : List ℕ → Bool) (l m : List (List ℕ)) → every (λ (r : List ℕ). not (c r)) l ≡ true → any c (l ++ m) ≡ any c m
+any-behind c l m h = any-by c (l ++ m) m (keep-behind c l m h)
 
 -- a row is the same as itself
 pub same-itself : (l : List ℕ) → same l l ≡ true

@@ -11,8 +11,7 @@ use Rattle.record.specs.Record.{bodyOf, ownedBy}
 use Rattle.table.proofs.Laws.{Wide, wide-all, wide-keep, wide-drop, wide-append, wide-bodies, length-rows, length-table, rows-table, zeros-table}
 use Rattle.rules.specs.Lent.{Lent, pagesOf, spanOf, lastOf, loggedOf, logOf, onlineOf}
 use Rattle.rules.specs.Sound.{every, zeros, inRange}
-use Rattle.rules.specs.Steps.{owned, committing, compacted, droppedBy, closed, formatted}
-use Rattle.compact.proofs.Shapes.{logged-compact}
+use Rattle.rules.specs.Steps.{owned, committing, droppedBy, closed, formatted}
 use Rattle.readback.proofs.Marks.{logged-commit, logged-close, logged-format}
 
 -- what is left of zero bytes is zero
@@ -87,11 +86,6 @@ module _ (s : Lent) (hm : length (s .durable .marks) ≡ 12 + 8 * pagesOf s) (ha
     pub log-length-close : length (closed s .lent .durable .log) ≡ length (s .durable .log)
     unfolding closed
     log-length-close = table-length (spanOf s) (loggedOf s - droppedBy s) less-wide less-length (omega arith) ∙ sym ha
-
--- compact leaves the log
-pub log-compact : (s : Lent) (p : ℕ) → logOf (compacted s p .lent) ≡ logOf s
-unfolding compacted
-log-compact s p = ap (λ (n : ℕ). rows 14 n (s .durable .log) 0) (logged-compact s p)
 
 -- format leaves an empty log
 module _ (s : Lent) (size pages frames room span last : ℕ) (r : inRange size pages frames room span ≡ true) (h : length (s .durable .marks) ≡ 12 + 8 * pages) (hl : last ≤ 4294967295) where

@@ -124,15 +124,9 @@ length-fetched-pool s p a h q =
     either-length (inFrame (entryOf s p)) (sizeOf s * framesOf s) (s .lost .pool) (withPage (sizeOf s) (placeOf s p) (s .lost .pool) (rebuilt s p)) (a .pool)
     (page-length (placeOf s p) (framesOf s) (sizeOf s) (s .lost .pool) (rebuilt s p) h (a .pool) q)
 
--- what is read of a store whose lost areas are whole: the count, an entry, a live byte
-pub count-whole : (s : Lent) → Whole s → countOf s ≡ length (onlineOf s)
-count-whole s w = w .count
-
-pub entry-reads : {s : Lent} {order lives entries : List ℕ} {online : List (List ℕ)} → Reads s order lives entries online → (p : ℕ) → p < pagesOf s → entryOf s p ≡ getD entries p 0
-entry-reads w p h = entry-says (tables-say w) p h
-
+-- what is read of a store whose lost areas are whole: an entry, a live byte
 pub entry-whole : (s : Lent) (p : ℕ) → Whole s → p < pagesOf s → entryOf s p ≡ getD (entriesOf s) p 0
-entry-whole s p w h = entry-reads w p h
+entry-whole s p w h = entry-says (tables-say w) p h
 
 pub live-whole : (s : Lent) (x : ℕ) → Whole s → 1 ≤ x → x ≤ 32 → liveOf s x ≡ getD (livesOf s) (x - 1) 0
 live-whole s x w h k = live-says (tables-say w) x h k

@@ -13,14 +13,14 @@ use Rattle.word.proofs.Laws.{length-put}
 use Rattle.word.proofs.Puts.{num-put, num-put-below, num-put-above}
 use Rattle.record.specs.Part.{withPart}
 use Rattle.record.specs.Rows.{keep, consIf}
-use Rattle.record.specs.Record.{pageOf, numberOf, committed, committedOn, lesser, smallest, greatest}
+use Rattle.record.specs.Record.{pageOf, numberOf, committed, committedOn, lesser, smallest}
 use Rattle.record.proofs.Laws.{num-part}
 use Rattle.record.proofs.Parts.{length-with, getD-with-below, part-with}
 use Rattle.rules.specs.Lent.{Lent, sizeOf, pagesOf, framesOf, roomOf, spanOf, lastOf, closedOf, loggedOf, stampAt, dirtyAt, stampOf, dirtyOf, onlineOf}
 use Rattle.rules.specs.Sound.{every, inRange}
-use Rattle.rules.specs.Steps.{owned, committing, foldable, compacted, lowered, droppedBy, closed, stamped, formatted}
+use Rattle.rules.specs.Steps.{owned, committing, foldable, lowered, droppedBy, closed, stamped, formatted}
 use Rattle.rules.proofs.Every.{both}
-use Rattle.rules.proofs.Extremes.{hasNumber, numberAtMost, lesser-most, smallest-wider}
+use Rattle.rules.proofs.Extremes.{numberAtMost, lesser-most}
 use Rattle.closing.proofs.Laws.{length-lowered}
 use Rattle.durable.specs.Ranges.{Ranged}
 use Rattle.durable.proofs.Laws.{ranged}
@@ -362,28 +362,6 @@ module _ (s : Lent) (h : length (s .durable .marks) ≡ 12 + 8 * pagesOf s) wher
     unfolding committing
     dirty-commit p = counted-behind (pagesOf s) (s .durable .marks) h (lastOf s + length (owned s x)) (loggedOf s + length (owned s x)) hl hn (dirtyAt (pagesOf s) p) (omega arith)
 
-  -- compact makes the page's stamp its greatest committed online number, and changes no other mark
-  module _ (p : ℕ) (k : p < pagesOf s) (hg : greatest 0 (foldable s p) ≤ 4294967295) where
-    pub marks-compact : length (compacted s p .lent .durable .marks) ≡ length (s .durable .marks)
-    unfolding compacted
-    marks-compact = restamped-length (pagesOf s) (s .durable .marks) h p (greatest 0 (foldable s p)) k hg
-
-    pub closed-compact : closedOf (compacted s p .lent) ≡ closedOf s
-    unfolding compacted
-    closed-compact = restamped-front (pagesOf s) (s .durable .marks) h p (greatest 0 (foldable s p)) k hg 4 (omega arith)
-
-    pub stamp-compact : stampOf (compacted s p .lent) p ≡ greatest 0 (foldable s p)
-    unfolding compacted
-    stamp-compact = restamped-same (pagesOf s) (s .durable .marks) h p (greatest 0 (foldable s p)) k hg
-
-    pub stamp-compact-other : (q : ℕ) → (q ≡ p → ⊥) → stampOf (compacted s p .lent) q ≡ stampOf s q
-    unfolding compacted
-    stamp-compact-other = restamped-other (pagesOf s) (s .durable .marks) h p (greatest 0 (foldable s p)) k hg
-
-    pub dirty-compact : (q : ℕ) → dirtyOf (compacted s p .lent) q ≡ dirtyOf s q
-    unfolding compacted
-    dirty-compact = restamped-dirty (pagesOf s) (s .durable .marks) h p (greatest 0 (foldable s p)) k hg
-
   -- close makes K the last number, each dirty number the page's smallest committed online number, and takes the dropped from the log's count
   module _ (hl : lastOf s ≤ 4294967295) (hn : loggedOf s ≤ 4294967295) where
     fewer : loggedOf s - droppedBy s ≤ 4294967295
@@ -412,11 +390,6 @@ module _ (s : Lent) (h : length (s .durable .marks) ≡ 12 + 8 * pagesOf s) wher
     pub dirty-close : (p : ℕ) → p < pagesOf s → every (numberAtMost 4294967295) (onlineOf s) ≡ true → dirtyOf (closed s .lent) p ≡ smallest 0 (foldable s p)
     unfolding closed
     dirty-close = shut-dirty (pagesOf s) (s .durable .marks) h (onlineOf s) (lastOf s) (loggedOf s - droppedBy s) hl fewer
-
--- no page's smallest committed number is below the smallest of all, by which close drops
-pub least-of-all : (p : ℕ) (rs : List (List ℕ)) → every hasNumber (keep committed rs) ≡ true → 1 ≤ length (keep (committedOn p) rs)
-    → smallest 0 (keep committed rs) ≤ smallest 0 (keep (committedOn p) rs)
-least-of-all p rs h k = smallest-wider (committedOn p) committed (λ (r : List ℕ) (e : committedOn p r ≡ true). both (eqb (pageOf r) p) (committed r) e .1) rs h k
 
 -- format: what it was given is what is read; L, K and the stamps are the L given, the rest is 0
 module _ (s : Lent) (size pages frames room span last : ℕ) (r : inRange size pages frames room span ≡ true) where

@@ -46,10 +46,6 @@ module _ (size n : ℕ) (l : List ℕ) (h : length l ≡ size * n) where
   pub page-length : (p : ℕ) → p < n → length (pageIn size p l) ≡ size
   page-length p k = length-part (p * size) size l (one-fits p n size (length l) k h)
 
-  -- a piece of a page
-  pub piece-length : (p offset w : ℕ) → p < n → offset + w ≤ size → length (part offset w (pageIn size p l)) ≡ w
-  piece-length p offset w k j = let e : length (pageIn size p l) ≡ size = page-length p k in length-part offset w (pageIn size p l) (omega arith)
-
   -- page p written: as many bytes in all, the page, another page
   module _ (p : ℕ) (k : p < n) (g : List ℕ) (q : length g ≡ size) where
     pub pages-length : length (withPage size p l g) ≡ length l

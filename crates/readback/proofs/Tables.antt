@@ -209,36 +209,27 @@ module _ {frames pages : ℕ} {t : List ℕ} {count : ℕ} {order lives entries 
         entries-read = part-outside w (35 + frames) pages (inr (omega arith)) ∙ h .entries-read;
       }
 
-  -- another entry
-  pub says-entry : (p e : ℕ) → p < pages → Says frames pages (set t (entryAt frames p) e) count order lives (set entries p e)
-  says-entry p e k =
-      let w : Within (35 + frames + p) 1 t (set t (35 + frames + p) e) = within-set t (35 + frames + p) e in
+  -- another entry, or others: what is before the entries stays
+  says-behind : {a k : ℕ} {u es : List ℕ} → Within a k t u → 35 + frames ≤ a → part (35 + frames) pages u ≡ es → Says frames pages u count order lives es
+  says-behind w g e =
       record {
         long = w .long ∙ h .long;
         count-read = count-outside w (inl (omega arith)) ∙ h .count-read;
         used = used-outside w (inl (omega arith)) ∙ h .used;
         fits = h .fits;
-        order-read = order-outside w (inl (omega arith));
-        order-zero = zero-outside w (inl (omega arith));
+        order-read = order-outside w (inl g);
+        order-zero = zero-outside w (inl g);
         lives-read = part-outside w 3 32 (inl (omega arith)) ∙ h .lives-read;
-        entries-read = part-set (35 + frames) pages t p e k ∙ ap (λ (l : List ℕ). set l p e) (h .entries-read);
+        entries-read = e;
       }
 
-  -- other entries
+  pub says-entry : (p e : ℕ) → p < pages → Says frames pages (set t (entryAt frames p) e) count order lives (set entries p e)
+  says-entry p e k = says-behind (within-set t (35 + frames + p) e) (omega arith) (part-set (35 + frames) pages t p e k ∙ ap (λ (l : List ℕ). set l p e) (h .entries-read))
+
   pub says-entries : (es : List ℕ) → length es ≡ pages → Says frames pages (withEntries frames pages es t) count order lives es
   says-entries es q =
       let g : 35 + frames + pages ≤ length t = omega (arith, h .long) in
-      let w : Within (35 + frames) pages t (withPart (35 + frames) pages t es) = within-with (35 + frames) pages t es g q in
-      record {
-        long = w .long ∙ h .long;
-        count-read = count-outside w (inl (omega arith)) ∙ h .count-read;
-        used = used-outside w (inl (omega arith)) ∙ h .used;
-        fits = h .fits;
-        order-read = order-outside w (inl (omega arith));
-        order-zero = zero-outside w (inl (omega arith));
-        lives-read = part-outside w 3 32 (inl (omega arith)) ∙ h .lives-read;
-        entries-read = part-with (35 + frames) pages t es (omega arith) q;
-      }
+      says-behind (within-with (35 + frames) pages t es g q) (omega arith) (part-with (35 + frames) pages t es (omega arith) q)
 
   -- another use order
   pub says-order : (o : List ℕ) → length o ≤ frames → Says frames pages (withOrder frames o t) count o lives entries

@@ -3,10 +3,10 @@
 use Prim.Native.Nat.{ℕ, suc, _+_, _≤_}
 use native.Mathlib.Omega.{arith}
 use mathlib.Core.Path.{_≡_, refl, sym, ap, _∙_, subst}
-use mathlib.Core.Bool.{Bool, true, false, cond, not, _&&_, _||_, or-comm, or-true, true≢false}
+use mathlib.Core.Bool.{Bool, true, false, cond, _&&_, _||_, or-comm, or-true, true≢false}
 use mathlib.Core.List.{List, [], _∷_, _++_}
 use lib.ListN.{length}
-use borrow.Author.Tests.{eqb-true, ne-eqb, not-true}
+use borrow.Author.Tests.{eqb-true, ne-eqb}
 use Rattle.record.specs.Rows.{keep, consIf, any}
 use Rattle.record.specs.Record.{ownerOf, committed, ownedBy, entered, numbered, numberRows}
 use Rattle.table.proofs.Laws.{Wide, one}
@@ -75,9 +75,6 @@ pub ≅-before : {l m : List (List ℕ)} (k : List (List ℕ)) → l ≅ m → l
 ≅-before k (under a e) = under a (≅-before k e)
 ≅-before k (then e f) = then (≅-before k e) (≅-before k f)
 
-pub ≅-append : {l m l′ m′ : List (List ℕ)} → l ≅ m → l′ ≅ m′ → l ++ l′ ≅ m ++ m′
-≅-append {l} {m} {l′} {m′} e f = then (≅-before l′ e) (≅-after m f)
-
 -- what passes a test is swapped as the whole is
 pub ≅-keep : (c : List ℕ → Bool) {l m : List (List ℕ)} → l ≅ m → keep c l ≅ keep c m
 unfolding keep
@@ -109,7 +106,7 @@ pub ≅-length : {l m : List (List ℕ)} → l ≅ m → length l ≡ length m
 ≅-length (under a e) = ap suc (≅-length e)
 ≅-length (then e f) = ≅-length e ∙ ≅-length f
 
-or-swap : (a b c : Bool) → (a || (b || c)) ≡ (b || (a || c))
+pub or-swap : (a b c : Bool) → (a || (b || c)) ≡ (b || (a || c))
 or-swap true true c = refl
 or-swap true false c = refl
 or-swap false b c = refl
@@ -172,10 +169,6 @@ unfolding keep
     pick false t e f = refl
 ≅-exact c n (under a e) = ap (λ (k : List (List ℕ)). consIf (c a) a k) (≅-exact c n e)
 ≅-exact c n (then e f) = ≅-exact c n e ∙ ≅-exact c n f
-
--- so do the uncommitted rows, and an owner's
-pub ≅-uncommitted : {l m : List (List ℕ)} → l ≅ m → keep (λ (r : List ℕ). not (committed r)) l ≡ keep (λ (r : List ℕ). not (committed r)) m
-≅-uncommitted e = ≅-exact (λ (r : List ℕ). not (committed r)) (λ (r : List ℕ) h. not-true (committed r) h) e
 
 -- an owner's row is not committed
 pub owned-open : (x : ℕ) → 1 ≤ x → (r : List ℕ) → ownedBy x r ≡ true → committed r ≡ false

@@ -1,14 +1,14 @@
 -- Rows by their fields: a row that update writes, one that commit numbers, one that restart enters from the log. Commit and restart make the same row,
 -- so the online table and the log speak of the same records. Lists of such rows: their width, their numbers.
-use Prim.Native.Nat.{ℕ, zero, suc, _+_, _^_, _≤_, _<_}
+use Prim.Native.Nat.{ℕ, suc, _+_, _^_, _≤_, _<_}
 use native.Mathlib.Omega.{arith}
 use native.Mathlib.Nat.{pow-le-pow-right, lt-of-lt-of-le}
 use mathlib.Core.Path.{_≡_, refl, sym, ap, _∙_}
 use mathlib.Core.Logic.{inl}
 use mathlib.Core.Bool.{Bool, true, false, not, _&&_, Bool·not-not}
 use mathlib.Core.List.{List, [], _∷_, _++_}
-use lib.ListN.{length, getD, drop, set, replicate, length-append, length-set, length-replicate, List·getD-append}
-use lib.Seq.{getD-set-same, getD-set-other, ext-getD, take-at, take-set-le, getD-at, length-take-le}
+use lib.ListN.{length, getD, set, replicate, length-append, length-set, length-replicate, List·getD-append}
+use lib.Seq.{getD-set-same, getD-set-other, ext-getD, take-at, getD-at, length-take-le}
 use lib.Dec.{leb, ltb}
 use borrow.Author.Tests.{eqb-true, eq-eqb, ne-eqb, leb-true, ltb-true, ltb-false, lt-ltb, le-leb}
 use Rattle.word.specs.Word.{num, put}
@@ -85,16 +85,6 @@ module _ (r : List ℕ) (k : ℕ) (h : length r ≡ 19) where
       let m : 15 + 4 ≤ length (set r 14 0) = omega (arith, cleared) in
       let q : k < 4294967296 = omega arith in
       num-put 4 (set r 14 0) 15 k m q
-
-  pub numbered-page : pageOf (numbered r k) ≡ pageOf r
-  numbered-page = body-page (numbered r k) r (numbered-body r k)
-
-  pub numbered-bytes : bodyOf (numbered r k) ≡ bodyOf r
-  unfolding numbered
-  numbered-bytes = take-put 4 (set r 14 0) 15 k 14 (omega arith) ∙ take-set-le 14 r 14 0 (omega arith)
-
-  pub numbered-formed : (size pages : ℕ) → wellFormed size pages (numbered r k) ≡ wellFormed size pages r
-  numbered-formed size pages = body-formed size pages (numbered r k) r (numbered-body r k)
 
 -- the numbers are the same bytes
 tails : (r b : List ℕ) (k : ℕ) → length r ≡ 19 → length b ≡ 14 → Agree 15 4 (numbered r k) (entered b k)
@@ -199,9 +189,6 @@ module _ (page offset w kind v owner : ℕ) where
   row-number = num-agree 4 (rowOf page offset w kind v owner) z₀ 15 (λ i p q. high-byte i p)
 
 -- committed rows: no test for uncommitted ones picks any of them
-pub keep-committed-all : (a : List (List ℕ)) → every committed a ≡ true → keep committed a ≡ a
-keep-committed-all a h = keep-all committed a h
-
 pub keep-open-none : (a : List (List ℕ)) → every committed a ≡ true → keep (λ (r : List ℕ). not (committed r)) a ≡ []
 keep-open-none a h =
     keep-none (λ (r : List ℕ). not (committed r)) a
@@ -216,13 +203,10 @@ not-owned x p r h =
 pub every-not-owned : (x : ℕ) (a : List (List ℕ)) → 1 ≤ x → every committed a ≡ true → every (λ (r : List ℕ). not (ownedBy x r)) a ≡ true
 every-not-owned x a p h = every-imp committed (λ (r : List ℕ). not (ownedBy x r)) (not-owned x p) a h
 
-pub keep-owned-none : (x : ℕ) (a : List (List ℕ)) → 1 ≤ x → every committed a ≡ true → keep (ownedBy x) a ≡ []
-keep-owned-none x a p h = keep-none (ownedBy x) a (every-not-owned x a p h)
-
 pub keep-others-all : (x : ℕ) (a : List (List ℕ)) → 1 ≤ x → every committed a ≡ true → keep (λ (r : List ℕ). not (ownedBy x r)) a ≡ a
 keep-others-all x a p h = keep-all (λ (r : List ℕ). not (ownedBy x r)) a (every-not-owned x a p h)
 
--- rows numbered one after another: in two parts, how many, without the first of them
+-- rows numbered one after another: in two parts, how many
 pub numberedFrom-append : (k : ℕ) (a b : List (List ℕ)) → numberedFrom k (a ++ b) ≡ numberedFrom k a ++ numberedFrom (k + length a) b
 unfolding numberedFrom
 numberedFrom-append k [] b = let e : k + 0 ≡ k = omega arith in rw e
@@ -235,14 +219,6 @@ pub numberedFrom-length : (k : ℕ) (l : List (List ℕ)) → length (numberedFr
 unfolding numberedFrom
 numberedFrom-length k [] = refl
 numberedFrom-length k (x ∷ l) = ap suc (numberedFrom-length (k + 1) l)
-
-pub numberedFrom-drop : (k d : ℕ) (l : List (List ℕ)) → drop d (numberedFrom k l) ≡ numberedFrom (k + d) (drop d l)
-unfolding numberedFrom
-numberedFrom-drop k zero l = let e : k + 0 ≡ k = omega arith in rw e
-numberedFrom-drop k (suc d) [] = refl
-numberedFrom-drop k (suc d) (x ∷ l) =
-    let e : k + 1 + d ≡ k + suc d = omega arith in
-    numberedFrom-drop (k + 1) d l ∙ ap (λ (n : ℕ). numberedFrom n (drop d l)) e
 
 -- they have the width of online rows, and are committed
 pub numberedFrom-wide : (k : ℕ) {l : List (List ℕ)} → Wide 14 l → Wide 19 (numberedFrom k l)

@@ -1,13 +1,13 @@
 -- Lists of records that differ by swaps of neighbours which are free of each other: the page does not see the difference.
 -- The order made becomes the order committed by such swaps, and `stable-partition` makes them in one go.
 use Prim.Native.Nat.{ℕ, _+_}
-use mathlib.Core.Path.{_≡_, refl, sym, ap, _∙_, subst}
+use mathlib.Core.Path.{_≡_, refl, sym, ap, _∙_}
 use mathlib.Core.Bool.{Bool, true, false, cond, not, _&&_, _||_, and-comm}
 use mathlib.Core.List.{List, [], _∷_, _++_}
 use lib.Dec.{eqb, ltb}
 use borrow.Author.Tests.{eqb-true, eqb-false, eq-eqb, ne-eqb, not-true}
 use Rattle.record.specs.Rows.{keep, consIf}
-use Rattle.record.specs.Record.{pageOf, offsetOf, lengthOf, apply, applied, onPage, shareByte}
+use Rattle.record.specs.Record.{pageOf, offsetOf, lengthOf, apply, applied, shareByte}
 use Rattle.apply.proofs.Laws.{applied-keep}
 use Rattle.rules.specs.Sound.{every, pairs}
 use Rattle.onlinecheck.proofs.Rows.{and-both, every-imp}
@@ -58,46 +58,6 @@ pub data _≈_ : List (List ℕ) → List (List ℕ) → Type 0 where
   behind : (a : List ℕ) {l m : List (List ℕ)} → l ≈ m → a ∷ l ≈ a ∷ m
   both : {l m n : List (List ℕ)} → l ≈ m → m ≈ n → l ≈ n
 
-pub ≈-sym : {l m : List (List ℕ)} → l ≈ m → m ≈ l
-≈-sym as-is = as-is
-≈-sym (swap a b l h) = swap b a l (free-sym a b h)
-≈-sym (behind a e) = behind a (≈-sym e)
-≈-sym (both e f) = both (≈-sym f) (≈-sym e)
-
-pub ≈-equal : {l m : List (List ℕ)} → l ≡ m → l ≈ m
-≈-equal {l} e = subst (λ (k : List (List ℕ)). l ≈ k) e as-is
-
--- before and after others
-pub ≈-after : (k : List (List ℕ)) {l m : List (List ℕ)} → l ≈ m → k ++ l ≈ k ++ m
-≈-after [] e = e
-≈-after (a ∷ k) e = behind a (≈-after k e)
-
-pub ≈-before : {l m : List (List ℕ)} (k : List (List ℕ)) → l ≈ m → l ++ k ≈ m ++ k
-≈-before k as-is = as-is
-≈-before k (swap a b l h) = swap a b (l ++ k) h
-≈-before k (behind a e) = behind a (≈-before k e)
-≈-before k (both e f) = both (≈-before k e) (≈-before k f)
-
-pub ≈-append : {l m l′ m′ : List (List ℕ)} → l ≈ m → l′ ≈ m′ → l ++ l′ ≈ m ++ m′
-≈-append {l} {m} {l′} {m′} e f = both (≈-before l′ e) (≈-after m f)
-
--- what passes a test is swapped as the whole is
-pub ≈-keep : (c : List ℕ → Bool) {l m : List (List ℕ)} → l ≈ m → keep c l ≈ keep c m
-unfolding keep
-≈-keep c as-is = as-is
-≈-keep c (swap a b l h) = pick (c a) (c b)
-  where
-    pick : (s t : Bool) → consIf s a (consIf t b (keep c l)) ≈ consIf t b (consIf s a (keep c l))
-    pick true true = swap a b (keep c l) h
-    pick true false = as-is
-    pick false t = as-is
-≈-keep c (behind a {l} {m} e) = pick (c a) (≈-keep c e)
-  where
-    pick : (s : Bool) → keep c l ≈ keep c m → consIf s a (keep c l) ≈ consIf s a (keep c m)
-    pick true f = behind a f
-    pick false f = f
-≈-keep c (both e f) = both (≈-keep c e) (≈-keep c f)
-
 -- a page sees no difference, whichever of its records a test picks
 pub ≈-picked : (p : ℕ) (c : List ℕ → Bool) → ((r : List ℕ) → c r ≡ true → pageOf r ≡ p) → {l m : List (List ℕ)} → l ≈ m → (g : List ℕ) → applied (keep c l) g ≡ applied (keep c m) g
 ≈-picked p c on as-is g = refl
@@ -113,9 +73,6 @@ pub ≈-picked : (p : ℕ) (c : List ℕ → Bool) → ((r : List ℕ) → c r �
     pick false t e f = refl
 ≈-picked p c on (behind a {l} {m} e) g = applied-keep c a l g ∙ ≈-picked p c on e (cond (c a) (apply a g) g) ∙ sym (applied-keep c a m g)
 ≈-picked p c on (both e f) g = ≈-picked p c on e g ∙ ≈-picked p c on f g
-
-pub ≈-page : (p : ℕ) {l m : List (List ℕ)} → l ≈ m → (g : List ℕ) → applied (keep (onPage p) l) g ≡ applied (keep (onPage p) m) g
-≈-page p e g = ≈-picked p (onPage p) (λ r h. eqb-true (pageOf r) p h) e g
 
 -- a record moves past those that it is free of
 pub ≈-move : (x : List ℕ) (k m : List (List ℕ)) → every (free x) k ≡ true → x ∷ k ++ m ≈ k ++ x ∷ m

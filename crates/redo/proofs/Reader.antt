@@ -23,6 +23,7 @@ use Rattle.redo.proofs.Bytes.{Agree, change-outside}
 use Rattle.redo.proofs.Commute.{Disjoint, ranges, disjoint-outside}
 use Rattle.redo.proofs.Order.{_≈_, as-is, swap, behind, both, free, parts, ≈-picked, stable-partition}
 use Rattle.redo.proofs.View.{applied-append, keep-append}
+use Rattle.redo.proofs.Loose.{or-swap}
 use Rattle.redo.proofs.Views.{keep-same, keep-both, keep-same-where, keep-none, rising, page-up-to, stored-then-online}
 
 -- two tests that all pass imply a third
@@ -54,12 +55,12 @@ none-each b (r ∷ l) h = pick (b r) h (none-each b l)
     pick false e f = f e
 
 -- of rows that all pass one test, those that pass another
-pub every-keep : (b c d : List ℕ → Bool) → ((r : List ℕ) → b r ≡ true → c r ≡ true → d r ≡ true) → (l : List (List ℕ)) → every c l ≡ true → every d (keep b l) ≡ true
+pub every-kept-where : (b c d : List ℕ → Bool) → ((r : List ℕ) → b r ≡ true → c r ≡ true → d r ≡ true) → (l : List (List ℕ)) → every c l ≡ true → every d (keep b l) ≡ true
 unfolding every keep
-every-keep b c d f [] h = refl
-every-keep b c d f (r ∷ l) h =
+every-kept-where b c d f [] h = refl
+every-kept-where b c d f (r ∷ l) h =
     let s : (c r ≡ true) × (every c l ≡ true) = and-both (c r) (every c l) h in
-    pick (b r) refl (s .0) (every-keep b c d f l (s .1))
+    pick (b r) refl (s .0) (every-kept-where b c d f l (s .1))
   where
     pick : (t : Bool) → b r ≡ t → c r ≡ true → every d (keep b l) ≡ true → every d (consIf t r (keep b l)) ≡ true
     pick true e g i = rw (f r e g) i
@@ -162,7 +163,7 @@ own-bytes x p offset w o h k n g m =
 
     clear : every (misses offset w) others ≡ true
     clear =
-        every-keep (λ (r : List ℕ). onPage p r && not (ownedBy x r)) free-to-read (misses offset w)
+        every-kept-where (λ (r : List ℕ). onPage p r && not (ownedBy x r)) free-to-read (misses offset w)
         (λ r a b. let s : (not (committed r) ≡ true) × (not (clashes x p offset w r) ≡ true) = and-both (not (committed r)) (not (clashes x p offset w r)) b in clear-misses x p offset w r a (s .0) (s .1))
         o
         (every-both (λ (r : List ℕ). not (committed r)) (λ (r : List ℕ). not (clashes x p offset w r)) free-to-read (λ r a b. rw (a, b)) o h (none-each (clashes x p offset w) o n))
@@ -215,12 +216,7 @@ stored-view p t made rows o e c h g =
 pub ≈-any : (b : List ℕ → Bool) {l m : List (List ℕ)} → l ≈ m → any b l ≡ any b m
 unfolding any
 ≈-any b as-is = refl
-≈-any b (swap a c l h) = turn (b a) (b c) (any b l)
-  where
-    turn : (s t u : Bool) → (s || (t || u)) ≡ (t || (s || u))
-    turn true true u = refl
-    turn true false u = refl
-    turn false t u = refl
+≈-any b (swap a c l h) = or-swap (b a) (b c) (any b l)
 ≈-any b (behind a e) = ap (λ (t : Bool). b a || t) (≈-any b e)
 ≈-any b (both e f) = ≈-any b e ∙ ≈-any b f
 

@@ -82,24 +82,10 @@ entered-body r k h i p q =
     let m : i < length (take 14 r) = omega arith in
     put-outside 4 (bodyOf r ++ replicate 5 0) 15 k i (inl (omega arith)) ∙ List·getD-append (take 14 r) (replicate 5 0) 0 i m ∙ getD-take 14 r i 0 q
 
-pub apply-numbered : (r : List ℕ) (k : ℕ) (g : List ℕ) → apply (numbered r k) g ≡ apply r g
-apply-numbered r k g = body-apply (numbered r k) r (numbered-body r k) g
-
-pub apply-entered : (r : List ℕ) (k : ℕ) (g : List ℕ) → length r ≡ 19 → apply (entered (bodyOf r) k) g ≡ apply r g
-apply-entered r k g h = body-apply (entered (bodyOf r) k) r (entered-body r k (omega arith)) g
-
 -- two lists of rows with the same bodies
 pub data SameBodies : List (List ℕ) → List (List ℕ) → Type 0 where
   none : SameBodies [] []
   one : {r s : List ℕ} {l m : List (List ℕ)} → SameBody r s → SameBodies l m → SameBodies (r ∷ l) (s ∷ m)
-
-pub bodies-refl : (l : List (List ℕ)) → SameBodies l l
-bodies-refl [] = none
-bodies-refl (r ∷ l) = one (λ i p q. refl) (bodies-refl l)
-
-pub bodies-append : {l m l′ m′ : List (List ℕ)} → SameBodies l m → SameBodies l′ m′ → SameBodies (l ++ l′) (m ++ m′)
-bodies-append none f = f
-bodies-append (one e h) f = one e (bodies-append h f)
 
 pub bodies-applied : {l m : List (List ℕ)} → SameBodies l m → (g : List ℕ) → applied l g ≡ applied m g
 unfolding applied
@@ -125,9 +111,6 @@ numberRows-bodies x k (r ∷ rs) = pick (ownedBy x r) (numberRows-bodies x (k + 
     pick : (t : Bool) → SameBodies (numberRows x (k + 1) rs) rs → SameBodies (numberRows x k rs) rs → SameBodies (cond t (numbered r k ∷ numberRows x (k + 1) rs) (r ∷ numberRows x k rs)) (r ∷ rs)
     pick true f h = one (numbered-body r k) f
     pick false f h = one (λ i p q. refl) h
-
-pub applied-numberRows : (x k : ℕ) (rs : List (List ℕ)) (g : List ℕ) → applied (numberRows x k rs) g ≡ applied rs g
-applied-numberRows x k rs g = bodies-applied (numberRows-bodies x k rs) g
 
 pub page-numberRows : (p x k : ℕ) (rs : List (List ℕ)) (g : List ℕ) → applied (keep (onPage p) (numberRows x k rs)) g ≡ applied (keep (onPage p) rs) g
 page-numberRows p x k rs g = bodies-applied (bodies-page p (numberRows-bodies x k rs)) g

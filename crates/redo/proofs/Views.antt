@@ -121,10 +121,6 @@ rising-steady n l h = pairs-imp rising (steady (λ (r : List ℕ). leb (numberOf
         go true f = refl
         go false f = let m : n < j = omega (arith, leb-false i n f) in ap not (lt-leb j n m)
 
--- a page's rows, or those of any test, are those up to a number, then those above it
-pub keep-split : (q : List ℕ → Bool) (n : ℕ) (l : List (List ℕ)) → pairs rising l ≡ true → keep q l ≡ keep (λ (r : List ℕ). q r && leb (numberOf r) n) l ++ keep (λ (r : List ℕ). q r && not (leb (numberOf r) n)) l
-keep-split q n l h = split-kept q (λ (r : List ℕ). leb (numberOf r) n) l (rising-steady n l h)
-
 -- of a page's rows, those not above their page's stamp are those numbered up to the stamp of that page
 pub page-up-to : (marks : List ℕ) (p : ℕ) (r : List ℕ) → (onPage p r && not (ltb (num 4 marks (stampAt (pageOf r))) (numberOf r))) ≡ (onPage p r && leb (numberOf r) (num 4 marks (stampAt p)))
 page-up-to marks p r = go (onPage p r) refl

@@ -3,13 +3,13 @@
 use Prim.Native.Nat.{ℕ, zero, suc, _+_, _/_, _%_, _≤_, _<_}
 use native.Mathlib.Omega.{arith}
 use mathlib.Core.Path.{_≡_, refl, sym, ap, _∙_}
-use mathlib.Core.Bool.{Bool, true, false, cond, not, _||_}
+use mathlib.Core.Bool.{Bool, true, false, cond}
 use mathlib.Core.List.{List, [], _∷_, _++_, map}
 use lib.ListN.{length, getD, set}
 use lib.Dec.{eqb, ltb}
 use borrow.Author.Tests.{ltb-true, eqb-true, eqb-false, lt-ltb, eq-eqb, ne-eqb}
 use Rattle.record.specs.Rows.{consIf, keep}
-use Rattle.order.specs.Order.{named, without, touched}
+use Rattle.order.specs.Order.{without, touched}
 use Rattle.rules.specs.Sound.{every, upTo, serving, times}
 use Rattle.rules.specs.Steps.{freed}
 use Rattle.onlinecheck.proofs.Rows.{and-both}
@@ -70,16 +70,6 @@ times-touched g f o =
     go false false p q h = omega (arith, rw p at h, rw q at (times-cons g f []), times-none g)
     go true false p q h = absurd (eqb-false f g q (sym (eqb-true g f p)))
     go false true p q h = absurd (eqb-false g f p (sym (eqb-true f g q)))
-
--- a frame is in use exactly if the order names it some times
-pub named-times : (f : ℕ) (o : List ℕ) → named f o ≡ not (eqb (times f o) 0)
-unfolding named
-named-times f [] = rw (times-none f)
-named-times f (x ∷ o) = rw (times-cons f x o) (go (eqb x f) (named-times f o))
-  where
-    go : (b : Bool) → named f o ≡ not (eqb (times f o) 0) → (b || named f o) ≡ not (eqb (cond b 1 0 + times f o) 0)
-    go true h = rw (ne-eqb (1 + times f o) 0 (λ e. omega arith))
-    go false h = let e : 0 + times f o ≡ times f o = omega arith in rw e h
 
 -- an entry that is set is counted for its new value and no more for its old one
 count-set : (b : ℕ → Bool) (l : List ℕ) (i v : ℕ) → i < length l → length (keep b (set l i v)) + cond (b (getD l i 0)) 1 0 ≡ length (keep b l) + cond (b v) 1 0

@@ -3,7 +3,7 @@
 use Prim.Native.Nat.{ℕ, zero, suc, _+_, _-_, _/_, _≤_, _<_}
 use native.Mathlib.Omega.{arith}
 use mathlib.Core.Path.{_≡_, refl, sym, ap, _∙_}
-use mathlib.Core.Bool.{Bool, true, false, cond, not, _&&_, _||_, false≢true}
+use mathlib.Core.Bool.{Bool, true, false, cond, not, _||_, false≢true}
 use mathlib.Core.List.{List, [], _∷_}
 use lib.ListN.{length, getD, set, replicate, length-set, length-replicate, getD-replicate}
 use lib.Seq.{getD-set-same, getD-set-other}
@@ -12,7 +12,6 @@ use borrow.Author.Tests.{ltb-true, le-leb, eqb-true, eqb-false, eq-eqb, ne-eqb}
 use Rattle.record.specs.Rows.{consIf, keep, any}
 use Rattle.record.specs.Record.{pageOf, onPage, ownedBy}
 use Rattle.order.specs.Order.{without}
-use Rattle.order.proofs.Laws.{length-without}
 use Rattle.rules.specs.Lent.{entryAt, inFrame, frameOf, isDirty}
 use Rattle.rules.specs.Steps.{freedOf, framesFreed}
 use Rattle.rules.specs.Sound.{every, serving, times}
@@ -20,6 +19,8 @@ use Rattle.rules.proofs.Every.{every-set, every-without}
 use Rattle.rules.proofs.Needed.{cond-same, walked, walked-length, walked-at}
 use Rattle.onlinecheck.proofs.Rows.{and-both}
 use Rattle.seats.proofs.Seated.{Seated}
+use Rattle.seats.proofs.Counting.{times-without, serving-set}
+use Rattle.seats.proofs.Places.{seated-evicted, absent-out}
 
 -- the entries once these rows' pages are judged anew by the rows that remain: "evicted if records remain, else absent"
 unfoldable pub judgedEntries : List (List ℕ) → List (List ℕ) → List ℕ → List ℕ
@@ -65,30 +66,7 @@ evicted-length rs es = ap (λ (l : List ℕ). length l) (evicted-walk rs es) ∙
 pub evicted-entry : (rs : List (List ℕ)) (es : List ℕ) (p : ℕ) → p < length es → getD (evictedEntries rs es) p 0 ≡ cond (any (onPage p) rs) 1 (getD es p 0)
 evicted-entry rs es p h = ap (λ (l : List ℕ). getD l p 0) (evicted-walk rs es) ∙ walked-at (λ (p : ℕ). p) evict (λ p q e. e) rs es p h
 
--- how often the order names a frame once another has left it
-without-times : (g f : ℕ) (o : List ℕ) → times g (without f o) ≡ cond (eqb g f) 0 (times g o)
-unfolding times without keep
-without-times g f [] = sym (cond-same (eqb g f) 0)
-without-times g f (x ∷ o) = go (eqb x f) (eqb g f) refl refl (without-times g f o)
-  where
-    count : List ℕ → ℕ
-    count l = length (keep (λ (h : ℕ). eqb h g) l)
-
-    more : (u : Bool) → count (without f o) ≡ count o → length (consIf u x (keep (λ (h : ℕ). eqb h g) (without f o))) ≡ length (consIf u x (keep (λ (h : ℕ). eqb h g) o))
-    more true k = ap (λ (n : ℕ). suc n) k
-    more false k = k
-
-    go : (s t : Bool) → eqb x f ≡ s → eqb g f ≡ t → count (without f o) ≡ cond t 0 (count o) → count (cond s (without f o) (x ∷ without f o)) ≡ cond t 0 (count (x ∷ o))
-    go true true e d k = k
-    go true false e d k =
-        let z : eqb x g ≡ false = ne-eqb x g (λ q. eqb-false g f d (sym q ∙ eqb-true x f e)) in
-        k ∙ ap (λ (b : Bool). length (consIf b x (keep (λ (h : ℕ). eqb h g) o))) (sym z)
-    go false true e d k =
-        let z : eqb x g ≡ false = ne-eqb x g (λ q. eqb-false x f e (q ∙ eqb-true g f d)) in
-        ap (λ (b : Bool). length (consIf b x (keep (λ (h : ℕ). eqb h g) (without f o)))) z ∙ k
-    go false false e d k = more (eqb x g) k
-
--- and once a page of this entry has lost its frame
+-- how often the order names a frame once a page of this entry has lost its own
 freed-times : (g e : ℕ) (o : List ℕ) → times g (freedOf e o) ≡ cond (eqb (e / 2) (g + 1)) 0 (times g o)
 freed-times g e o = go (eqb (e / 2) 0) refl
   where
@@ -105,7 +83,7 @@ freed-times g e o = go (eqb (e / 2) 0) refl
 
     go : (b : Bool) → eqb (e / 2) 0 ≡ b → times g (cond (not b) (without (frameOf e) o) o) ≡ cond (eqb (e / 2) (g + 1)) 0 (times g o)
     go true q = same false (eqb (e / 2) (g + 1)) (sym (ne-eqb (e / 2) (g + 1) (λ k. omega (arith, k, eqb-true (e / 2) 0 q))))
-    go false q = without-times g (frameOf e) o ∙ same (eqb g (frameOf e)) (eqb (e / 2) (g + 1)) (turn (eqb (e / 2) (g + 1)) refl (eqb-false (e / 2) 0 q))
+    go false q = times-without g (frameOf e) o ∙ same (eqb g (frameOf e)) (eqb (e / 2) (g + 1)) (turn (eqb (e / 2) (g + 1)) refl (eqb-false (e / 2) 0 q))
 
 -- the row's page is in frame g, by the entries of the tables
 abbrev pub sits : ℕ → List ℕ → ℕ → List ℕ → Bool
@@ -124,15 +102,6 @@ freed-order frames t (r ∷ rs) o g =
     go true = cond-same (any (sits frames t g) rs) 0
     go false = refl
 
-pub freed-shorter : (frames : ℕ) (t : List ℕ) (rs : List (List ℕ)) (o : List ℕ) → length (framesFreed frames t rs o) ≤ length o
-unfolding framesFreed
-freed-shorter frames t [] o = omega arith
-freed-shorter frames t (r ∷ rs) o = omega (arith, freed-shorter frames t rs (freedOf (getD t (entryAt frames (pageOf r)) 0) o), go (inFrame (getD t (entryAt frames (pageOf r)) 0)))
-  where
-    go : (b : Bool) → length (cond b (without (frameOf (getD t (entryAt frames (pageOf r)) 0)) o) o) ≤ length o
-    go true = length-without (frameOf (getD t (entryAt frames (pageOf r)) 0)) o
-    go false = omega arith
-
 pub freed-every : (b : ℕ → Bool) (frames : ℕ) (t : List ℕ) (rs : List (List ℕ)) (o : List ℕ) → every b o ≡ true → every b (framesFreed frames t rs o) ≡ true
 unfolding framesFreed
 freed-every b frames t [] o h = h
@@ -142,28 +111,9 @@ freed-every b frames t (r ∷ rs) o h = freed-every b frames t rs (freedOf (getD
     go true = every-without b (frameOf (getD t (entryAt frames (pageOf r)) 0)) o h
     go false = h
 
--- how many entries pass a test once one is another
-count-set : (b : ℕ → Bool) (es : List ℕ) (p e : ℕ) → p < length es → length (keep b (set es p e)) + cond (b (getD es p 0)) 1 0 ≡ length (keep b es) + cond (b e) 1 0
-unfolding keep
-count-set b [] p e h = absurd (omega arith)
-count-set b (x ∷ es) zero e h = go (b e) (b x)
-  where
-    go : (s t : Bool) → length (consIf s e (keep b es)) + cond t 1 0 ≡ length (consIf t x (keep b es)) + cond s 1 0
-    go true true = refl
-    go true false = omega arith
-    go false true = omega arith
-    go false false = refl
-count-set b (x ∷ es) (suc p) e h = go (b x) (count-set b es p e (omega arith))
-  where
-    go : (s : Bool) → length (keep b (set es p e)) + cond (b (getD es p 0)) 1 0 ≡ length (keep b es) + cond (b e) 1 0
-        → length (consIf s x (keep b (set es p e))) + cond (b (getD es p 0)) 1 0 ≡ length (consIf s x (keep b es)) + cond (b e) 1 0
-    go true k = omega arith
-    go false k = k
-
 -- a page that is in no frame any more: its frame, if it had one, has lost its only page
 leave-serving : (g : ℕ) (es : List ℕ) (p e : ℕ) → p < length es → e ≤ 1 → serving g es ≤ 1 → serving g (set es p e) ≡ cond (eqb (getD es p 0 / 2) (g + 1)) 0 (serving g es)
-unfolding serving
-leave-serving g es p e h k m = go (eqb (getD es p 0 / 2) (g + 1)) (count-set (λ (d : ℕ). eqb (d / 2) (g + 1)) es p e h ∙ ap (λ (b : Bool). serving g es + cond b 1 0) none)
+leave-serving g es p e h k m = go (eqb (getD es p 0 / 2) (g + 1)) (serving-set g es p e h ∙ ap (λ (b : Bool). serving g es + cond b 1 0) none)
   where
     none : eqb (e / 2) (g + 1) ≡ false
     none = ne-eqb (e / 2) (g + 1) (λ q. omega arith)
@@ -274,34 +224,11 @@ seated-abort frames remain rs es t o s h e =
     alike : (g : ℕ) → any (sits frames t g) rs ≡ any (seat es g) rs
     alike g = any-same (within (length es)) (sits frames t g) (seat es g) (λ r w. ap (λ (n : ℕ). eqb (n / 2) (g + 1)) (e (pageOf r) (ltb-true (pageOf r) (length es) w))) rs h
 
--- with all pages absent no frame is in use
-pub seated-absent : (frames pages : ℕ) → Seated frames (replicate pages 0) []
-unfolding every serving times keep
-seated-absent frames pages =
-    record {
-      entries-within = low pages;
-      order-within = refl;
-      once = λ f k. omega (arith, none f pages);
-      named = λ f k. sym (none f pages);
-    }
-  where
-    low : (n : ℕ) → every (λ (d : ℕ). leb (d / 2) frames) (replicate n 0) ≡ true
-    low zero = refl
-    low (suc n) = ap (λ (b : Bool). b && every (λ (d : ℕ). leb (d / 2) frames) (replicate n 0)) (le-leb 0 frames (omega arith)) ∙ low n
-
-    none : (f n : ℕ) → length (keep (λ (e : ℕ). eqb (e / 2) (f + 1)) (replicate n 0)) ≡ 0
-    none f zero = refl
-    none f (suc n) = ap (λ (b : Bool). length (consIf b 0 (keep (λ (e : ℕ). eqb (e / 2) (f + 1)) (replicate n 0)))) (ne-eqb 0 (f + 1) (λ q. omega arith)) ∙ none f n
-
 -- after a restart no frame is in use
-pub seated-restart : (frames pages : ℕ) (rs : List (List ℕ)) → every (λ (r : List ℕ). ltb (pageOf r) pages) rs ≡ true → Seated frames (evictedEntries rs (replicate pages 0)) []
-unfolding every times keep
-seated-restart frames pages rs h =
+pub seated-restart : (frames pages : ℕ) (rs : List (List ℕ)) → Seated frames (evictedEntries rs (replicate pages 0)) []
+seated-restart frames pages rs =
     rw (evicted-walk rs (replicate pages 0))
-    (walked-seated evict (λ p. omega arith) frames rs (replicate pages 0) [] [] (seated-absent frames pages)
-    (ap (λ (n : ℕ). every (within n) rs) (length-replicate {A = ℕ} pages 0) ∙ h)
-    refl
-    (λ g. sym (cond-same (any (seat (replicate pages 0) g) rs) 0)))
+    (seated-evicted frames (walk evict rs (replicate pages 0)) (walked-every (λ (e : ℕ). eqb (e / 2) 0) evict (λ p. refl) rs (replicate pages 0) (absent-out pages)))
 
 -- each page is evicted if a row is on it, else absent
 pub restart-entry : (pages : ℕ) (rs : List (List ℕ)) (p : ℕ) → p < pages → getD (evictedEntries rs (replicate pages 0)) p 0 ≡ cond (any (onPage p) rs) 1 0
@@ -352,18 +279,19 @@ rest-kept b c (r ∷ l) h = go (c r) h (λ k. rest-kept b c l k)
         f (n .1) ∙ ap (λ (z : Bool). consIf z r (keep b l)) (sym (n .0))
     go false k f = ap (λ (m : List (List ℕ)). consIf (b r) r m) (f k)
 
-unfoldable some : List (List ℕ) → Bool
-some [] = false
-some (r ∷ l) = true
-
-any-kept : (b : List ℕ → Bool) (l : List (List ℕ)) → any b l ≡ some (keep b l)
-unfolding any keep some
+-- one passes, or none is kept
+pub any-kept : (b : List ℕ → Bool) (l : List (List ℕ)) → any b l ≡ not (eqb (length (keep b l)) 0)
+unfolding any keep
 any-kept b [] = refl
-any-kept b (r ∷ l) = go (b r) (any-kept b l)
+any-kept b (r ∷ l) = pick (b r) (any-kept b l)
   where
-    go : (s : Bool) → any b l ≡ some (keep b l) → (s || any b l) ≡ some (consIf s r (keep b l))
-    go true k = refl
-    go false k = k
+    pick : (t : Bool) → any b l ≡ not (eqb (length (keep b l)) 0) → (t || any b l) ≡ not (eqb (length (consIf t r (keep b l))) 0)
+    pick true e = ap not (sym (ne-eqb (suc (length (keep b l))) 0 (λ z. omega arith)))
+    pick false e = e
+
+-- so rows of which the same are kept have one alike
+pub any-by : (b : List ℕ → Bool) (l m : List (List ℕ)) → keep b l ≡ keep b m → any b l ≡ any b m
+any-by b l m e = any-kept b l ∙ ap (λ (k : List (List ℕ)). not (eqb (length k) 0)) e ∙ sym (any-kept b m)
 
 -- a page that had no row of the owner's has the rows that it had
 pub abort-rows : (x p : ℕ) (l : List (List ℕ)) → any (onPage p) (keep (ownedBy x) l) ≡ false → keep (onPage p) (keep (λ (r : List ℕ). not (ownedBy x r)) l) ≡ keep (onPage p) l
@@ -379,4 +307,4 @@ abort-dirty x p l es h d = ap (λ (e : ℕ). isDirty e) (judged-entry remain (ke
 
     go : (b : Bool) → any (onPage p) (keep (ownedBy x) l) ≡ b → isDirty (cond b (judge remain p) (getD es p 0)) ≡ any (onPage p) remain
     go true e = bit-dirty (any (onPage p) remain)
-    go false e = d ∙ any-kept (onPage p) l ∙ ap (λ (m : List (List ℕ)). some m) (sym (abort-rows x p l e)) ∙ sym (any-kept (onPage p) remain)
+    go false e = d ∙ any-by (onPage p) l remain (sym (abort-rows x p l e))

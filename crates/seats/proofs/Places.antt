@@ -37,9 +37,6 @@ pub half-none : (e : ℕ) → e ≤ 1 → inFrame e ≡ false
 half-none e h = let k : e / 2 ≡ 0 = omega arith in rw (eq-eqb (e / 2) 0 k)
 
 -- clean in frame f
-pub clean-in : (f : ℕ) → inFrame (cleanIn f) ≡ true
-clean-in f = half-in (cleanIn f) f (omega arith)
-
 pub clean-frame : (f : ℕ) → frameOf (cleanIn f) ≡ f
 clean-frame f = omega arith
 
@@ -47,9 +44,6 @@ pub clean-not-dirty : (f : ℕ) → isDirty (cleanIn f) ≡ false
 clean-not-dirty f = ne-eqb (cleanIn f % 2) 1 (λ e. omega arith)
 
 -- dirty in frame f
-pub dirty-in : (f : ℕ) → inFrame (dirtyIn f) ≡ true
-dirty-in f = half-in (dirtyIn f) f (omega arith)
-
 pub dirty-frame : (f : ℕ) → frameOf (dirtyIn f) ≡ f
 dirty-frame f = omega arith
 
@@ -211,7 +205,7 @@ seated-evicted frames es h =
     }
 
 -- format: every page is absent
-absent-out : (pages : ℕ) → every (λ (e : ℕ). eqb (e / 2) 0) (replicate pages 0) ≡ true
+pub absent-out : (pages : ℕ) → every (λ (e : ℕ). eqb (e / 2) 0) (replicate pages 0) ≡ true
 unfolding every
 absent-out zero = refl
 absent-out (suc n) = absent-out n

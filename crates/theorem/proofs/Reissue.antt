@@ -31,26 +31,19 @@ use Rattle.history.specs.Run.{Call, Begin, Commit, Abort, Evict, Read, Update, 
 use Rattle.history.proofs.Known.{last-read, live-read, owned-read}
 use Rattle.history.proofs.Incident.{Later, now, begin, update, commit, abort, loss as later-loss, restart as later-restart, stands, abort-shows, unowned, new-shows}
 use Rattle.theorem.specs.After.{After, here, then-call, then-restart, then-loss, then-loss-inside, then-no-format, inClaim, Claim, begun as claim-begun, claims}
-use Rattle.theorem.proofs.Stands.{within, told-up, Stands, up, down, run-stands}
+use Rattle.theorem.proofs.Stands.{within, told-up, Stands, by-verdict, told-silent, up, down, run-stands}
 use Rattle.theorem.proofs.Shows.{Rightly, run-right, read-shows}
 
--- a call that is done or refused: what it adds is known where it is done
-module _ {h k : Past} (l : Later h k) (c : Call) (s : Lent) (buffer : List ℕ) (o : Outcome) where
-  by-verdict : (v : Verdict) → (v ≡ Go → Later h (told k c (o .answer))) → Later h (told k c (settled v s buffer o .answer))
-  unfolding told
-  by-verdict Go f = f refl
-  by-verdict (Refuse r) f = l
+-- where a history is come to, whatever the bytes
+abbrev Reached : Past → Past → Lent → Type 0
+Reached h k t = Later h k
 
--- what adds nothing to the history when it is done adds nothing at all
 silent : {h k : Past} → Later h k → (c : Call) → taken k c ≡ k → (a : Answer) → Later h (told k c a)
-unfolding told
-silent {h} l c e (Done counts) = subst (λ (q : Past). Later h q) (sym e) l
-silent l c e NotDue = l
-silent l c e (Refused r) = l
+silent {h} {k} l c e a = subst (λ (q : Past). Later h q) (sym (told-silent k c e a)) l
 
 later-restarted : {h k : Past} (t : Lent) → Later h k → Later h (told k Restart (restartCall t .answer))
 unfolding restartCall told taken
-later-restarted t l = by-verdict l Restart t [] (doneWith (restarted t) []) (judgeRestart t) (λ e. later-restart l)
+later-restarted {h} t l = by-verdict (Reached h) {s = t} l Restart [] (doneWith (restarted t) []) (judgeRestart t) (λ e. later-restart l)
 
 -- a call is at most one step of the history
 module _ {h k : Past} {t : Lent} (l : Later h k) (q : Rightly k t) where
@@ -60,14 +53,14 @@ module _ {h k : Past} {t : Lent} (l : Later h k) (q : Rightly k t) where
 
   later-call : (c : Call) → Later h (told k c (outcome t c .answer))
   unfolding outcome beginCall commitCall abortCall updateCall told taken
-  later-call (Begin x) = by-verdict l (Begin x) t [] (doneWith (begun t x) []) (judgeBegin t x) (λ e. begin l x)
+  later-call (Begin x) = by-verdict (Reached h) {s = t} l (Begin x) [] (doneWith (begun t x) []) (judgeBegin t x) (λ e. begin l x)
   later-call (Commit x) =
-      by-verdict l (Commit x) t [] (doneWith (committing t x) []) (judgeCommit t x)
+      by-verdict (Reached h) {s = t} l (Commit x) [] (doneWith (committing t x) []) (judgeCommit t x)
       (λ e. let m = within x (commit-went t x e .1) in commit l x (m .0) (commit-room x (m .0) e))
-  later-call (Abort x) = by-verdict l (Abort x) t [] (doneWith (aborted t x) []) (judgeAbort t x) (λ e. abort l x (within x (abort-went t x e .1) .0))
+  later-call (Abort x) = by-verdict (Reached h) {s = t} l (Abort x) [] (doneWith (aborted t x) []) (judgeAbort t x) (λ e. abort l x (within x (abort-went t x e .1) .0))
   later-call (Evict p) = silent l (Evict p) refl (outcome t (Evict p) .answer)
   later-call (Read buffer x p offset w) = silent l (Read buffer x p offset w) refl (outcome t (Read buffer x p offset w) .answer)
-  later-call (Update x p offset w kind v) = by-verdict l (Update x p offset w kind v) t [] (doneWith (updated t row) []) (judgeUpdate t x p offset w kind v) go
+  later-call (Update x p offset w kind v) = by-verdict (Reached h) {s = t} l (Update x p offset w kind v) [] (doneWith (updated t row) []) (judgeUpdate t x p offset w kind v) go
     where
       row : List ℕ
       row = rowOf p offset w kind v x

@@ -20,19 +20,17 @@ use Rattle.rules.specs.declared.Counts.{Counts}
 use Rattle.rules.specs.declared.Verdict.{Verdict}
 use Rattle.rules.specs.declared.Verdict.the-variants.{Go, Refuse}
 use Rattle.rules.specs.Lent.{Lent, Durable, sizeOf, pagesOf, roomOf, stampAt, stampOf, onlineOf, pageIn}
-use Rattle.rules.specs.Sound.{every, pairs, sound}
+use Rattle.rules.specs.Sound.{sound}
 use Rattle.rules.specs.Steps.{placeOf, fetchedPool, readStep, readBytes, enteringAll, restarted}
 use Rattle.rules.specs.Calls.{refuseIf, settled, doneWith, judgeRead, readCall, judgeRestart, restartCall}
 use Rattle.ventarico.proofs.Went.{read-went, read-whose}
 use Rattle.redo.proofs.Loose.{≅-free}
-use Rattle.redo.proofs.Numbered.{numberedFrom-committed, numberedFrom-rising}
-use Rattle.redo.proofs.Views.{rising}
-use Rattle.redo.proofs.Reader.{read-bytes, stored-up-to, every-keep}
+use Rattle.redo.proofs.Reader.{read-bytes, stored-up-to}
 use Rattle.readback.proofs.Pages.{page-length}
 use Rattle.history.specs.Past.{Past, startPage, shown, storedUpTo}
 use Rattle.history.specs.Run.{Run}
-use Rattle.history.proofs.Right.{Ground, PastRight, DurableRight, Right, Down, rowsOf, openOf, uncommitted, aboveStamp}
-use Rattle.history.proofs.Tested.{every-all}
+use Rattle.history.proofs.Right.{Ground, PastRight, DurableRight, Right, Down, rowsOf, openOf, aboveStamp}
+use Rattle.history.proofs.Facts.{done-committed, done-rising, open-unset}
 use Rattle.history.proofs.Soundly.{durable-sound, right-sound}
 use Rattle.history.proofs.Fetches.{fetched-page}
 use Rattle.history.proofs.Restarts.{restart-fits, falls-down}
@@ -68,21 +66,11 @@ restart-accepted {h} {s} r = ap (λ (v : Verdict). settled v s [] (doneWith (res
     go (up g done m q) = goes (falls-down q)
     go (down g done m d) = goes d
 
--- what reads and stored pages need of the two parts
-module _ {g : Ground} {done : List (List ℕ)} {h : Past} (a : PastRight g done h) where
-  rows-committed : every committed (rowsOf g done) ≡ true
-  rows-committed = numberedFrom-committed (g .base + 1) (a .done-wide)
+-- a starting page is the history's
+same-start : {g : Ground} {done : List (List ℕ)} {h : Past} → PastRight g done h → (p : ℕ) → pageIn (g .size) p (g .start) ≡ startPage h p
+same-start {g} {done} {h} a p = ap (λ (n : ℕ). pageIn n p (g .start)) (sym (a .size)) ∙ ap (λ (l : List ℕ). pageIn (h .size) p l) (sym (a .start))
 
-  rows-rising : pairs rising (rowsOf g done) ≡ true
-  rows-rising = numberedFrom-rising (g .base + 1) (a .done-wide) (omega (arith, a .last, a .bound))
-
-  same-start : (p : ℕ) → pageIn (g .size) p (g .start) ≡ startPage h p
-  same-start p = ap (λ (n : ℕ). pageIn n p (g .start)) (sym (a .size)) ∙ ap (λ (l : List ℕ). pageIn (h .size) p l) (sym (a .start))
-
-  open-uncommitted : every uncommitted (openOf h) ≡ true
-  open-uncommitted = every-keep uncommitted (λ (r : List ℕ). true) uncommitted (λ r e f. e) (h .made) (every-all (λ (r : List ℕ). true) (λ r. refl) (h .made))
-
--- a starting page is as long as a page
+-- and as long as a page
 start-length : {g : Ground} {done : List (List ℕ)} {u : Durable} → DurableRight g done u → (p : ℕ) → p < g .pages → length (pageIn (g .size) p (g .start)) ≡ g .size
 start-length {g} {done} {u} d p m =
     sym (length-applied (keep (λ (r : List ℕ). onPage p r && not (aboveStamp (u .marks) r)) (rowsOf g done)) (pageIn (g .size) p (g .start)))
@@ -95,7 +83,7 @@ unfolding storedUpTo
 stored-page {g} {done} {h} {u} a d p m =
     ap (λ (n : ℕ). pageIn n p (u .stored)) (a .size)
     ∙ d .page p (subst (λ (n : ℕ). p < n) (a .pages) m)
-    ∙ stored-up-to p (u .marks) (h .made) (rowsOf g done) (openOf h) (≅-free (a .made)) (rows-committed a) (open-uncommitted a) (pageIn (g .size) p (g .start))
+    ∙ stored-up-to p (u .marks) (h .made) (rowsOf g done) (openOf h) (≅-free (a .made)) (done-committed a) (open-unset a) (pageIn (g .size) p (g .start))
     ∙ ap (λ (l : List ℕ). applied mine l) (same-start a p)
   where
     mine : List (List ℕ)
@@ -119,7 +107,7 @@ module _ {g : Ground} {done : List (List ℕ)} {h : Past} {s : Lent} (q : Right 
   page-bytes =
       ap (λ (l : List ℕ). part offset w l) (fetched-page p asked q)
       ∙ ap (λ (n : ℕ). part offset w (applied (keep (onPage p) (onlineOf s)) (pageIn n p (s .durable .stored)))) (q .durable .size)
-      ∙ read-bytes x p offset w (s .durable .marks) (h .made) (onlineOf s) (rowsOf g done) (openOf h) (≅-free (q .past .made)) (≅-free (q .lost .online-is)) (rows-rising (q .past)) (rows-committed (q .past)) (open-uncommitted (q .past)) (q .past .apart)
+      ∙ read-bytes x p offset w (s .durable .marks) (h .made) (onlineOf s) (rowsOf g done) (openOf h) (≅-free (q .past .made)) (≅-free (q .lost .online-is)) (done-rising (q .past)) (done-committed (q .past)) (open-unset (q .past)) (q .past .apart)
       (read-whose s (length buffer) x p offset w e .2) (pageIn (g .size) p (g .start)) (pageIn (g .size) p (s .durable .stored)) (q .durable .page p below) room
       ∙ ap (λ (l : List ℕ). part offset w (applied (keep (λ (r : List ℕ). onPage p r && (committed r || ownedBy x r)) (h .made)) l)) (same-start (q .past) p)
     where

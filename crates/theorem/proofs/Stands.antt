@@ -1,7 +1,7 @@
 -- Every run stands: after each call and each loss the history and the bytes are right, or await a restart.
 use Prim.Native.Nat.{ℕ, _+_, _*_, _≤_, _<_}
 use mathlib.Core.Path.{_≡_, refl, sym, ap, _∙_}
-use mathlib.Core.Bool.{Bool, true, false, _&&_}
+use mathlib.Core.Bool.{Bool, true, false}
 use mathlib.Core.List.{List, [], _++_, map}
 use lib.ListN.{length}
 use lib.Dec.{leb}
@@ -17,7 +17,8 @@ use Rattle.rules.specs.Lent.{Lent, Lost, pagesOf}
 use Rattle.rules.specs.Sound.{between}
 use Rattle.rules.specs.Steps.{begun, readStep, readBytes, updated, owned, committing, aborted, evicted, due, compacted, closed, checkpointed, restarted, formatted}
 use Rattle.rules.specs.Calls.{Outcome, settled, doneWith, dueOr, judgeBegin, beginCall, judgeRead, readCall, judgeUpdate, updateCall, judgeCommit, commitCall, judgeAbort, abortCall, judgeEvict, evictCall, judgeCompact, compactCall, judgeClose, closeCall, judgeCheckpoint, checkpointCall, judgeRestart, restartCall, judgeFormat, formatCall}
-use Rattle.ventarico.proofs.Went.{begin-went, abort-went, evict-went, commit-went, read-went, update-went, update-whose, compact-went}
+use Rattle.rules.proofs.Every.{both}
+use Rattle.ventarico.proofs.Went.{begin-went, abort-went, evict-went, commit-went, read-went, update-went, update-whose, compact-went, format-went}
 use Rattle.history.specs.Past.{Past, fresh, begins, updates, commits, aborts, falls, rises}
 use Rattle.history.specs.Run.{Call, Begin, Commit, Abort, Evict, Read, Update, Compact, Checkpoint, Close, Restart, outcome, taken, told, Fits, afterLoss, afterSteps, Run, format, no-format, call, restart, loss, loss-inside}
 use Rattle.history.proofs.Right.{Ground, Right, Down}
@@ -34,12 +35,7 @@ use Rattle.history.proofs.Formats.{format-right}
 
 -- a number of a transaction is within its range
 pub within : (x : ℕ) → between 1 x 32 ≡ true → (1 ≤ x) × (x ≤ 32)
-within x e = go (leb 1 x) (leb x 32) refl refl e
-  where
-    go : (a b : Bool) → leb 1 x ≡ a → leb x 32 ≡ b → (a && b) ≡ true → (1 ≤ x) × (x ≤ 32)
-    go true true f k z = (leb-true 1 x f, leb-true x 32 k)
-    go true false f k z = absurd (mathlib.Core.Bool.false≢true z)
-    go false b f k z = absurd (mathlib.Core.Bool.false≢true z)
+within x e = let k = both (leb 1 x) (leb x 32) e in (leb-true 1 x (k .0), leb-true x 32 (k .1))
 
 -- no call, accepted or refused, leaves a store that is up awaiting a restart
 pub told-up : (h : Past) (c : Call) (a : Answer) → h .down ≡ false → told h c a .down ≡ false
@@ -63,11 +59,17 @@ pub data Stands (h : Past) (s : Lent) : Type 0 where
   down : (g : Ground) (done : List (List ℕ)) → h .down ≡ true → Down g done h s → Stands h s
 
 -- a call that is settled: refused, nothing changes; else its step
-module _ {h : Past} {s : Lent} (st : Stands h s) (c : Call) (buffer : List ℕ) (o : Outcome) where
-  pub by-verdict : (v : Verdict) → (v ≡ Go → Stands (told h c (o .answer)) (o .lent)) → Stands (told h c (settled v s buffer o .answer)) (settled v s buffer o .lent)
-  unfolding told
-  by-verdict Go f = f refl
-  by-verdict (Refuse r) f = st
+pub by-verdict : (P : Past → Lent → Type 0) {h : Past} {s : Lent} → P h s → (c : Call) (buffer : List ℕ) (o : Outcome) (v : Verdict) → (v ≡ Go → P (told h c (o .answer)) (o .lent)) → P (told h c (settled v s buffer o .answer)) (settled v s buffer o .lent)
+unfolding told
+by-verdict P p c buffer o Go f = f refl
+by-verdict P p c buffer o (Refuse r) f = p
+
+-- what adds nothing to the history when it is done adds nothing at all
+pub told-silent : (h : Past) (c : Call) → taken h c ≡ h → (a : Answer) → told h c a ≡ h
+unfolding told
+told-silent h c e (Done counts) = e
+told-silent h c e NotDue = refl
+told-silent h c e (Refused r) = refl
 
 module _ {g : Ground} {done : List (List ℕ)} {h : Past} {s : Lent} (n : h .down ≡ false) (r : Right g done h s) where
   here : Stands h s
@@ -75,28 +77,28 @@ module _ {g : Ground} {done : List (List ℕ)} {h : Past} {s : Lent} (n : h .dow
 
   stands-begin : (x : ℕ) → Stands (told h (Begin x) (beginCall s x .answer)) (beginCall s x .lent)
   unfolding beginCall told taken begins here
-  stands-begin x = by-verdict here (Begin x) [] (doneWith (begun s x) []) (judgeBegin s x) go
+  stands-begin x = by-verdict Stands here (Begin x) [] (doneWith (begun s x) []) (judgeBegin s x) go
     where
       go : judgeBegin s x ≡ Go → Stands (begins h x) (begun s x .lent)
       go e = let w = within x (begin-went s x e .1) in up g done n (keeps-begin x (w .0) (w .1) r)
 
   stands-evict : (p : ℕ) → Stands (told h (Evict p) (evictCall s p .answer)) (evictCall s p .lent)
   unfolding evictCall told taken here
-  stands-evict p = by-verdict here (Evict p) [] (doneWith (evicted s p) []) (judgeEvict s p) go
+  stands-evict p = by-verdict Stands here (Evict p) [] (doneWith (evicted s p) []) (judgeEvict s p) go
     where
       go : judgeEvict s p ≡ Go → Stands h (evicted s p .lent)
       go e = let w = evict-went s p e in up g done n (keeps-evict p (w .1) (w .2) r)
 
   stands-read : (buffer : List ℕ) (x p offset w : ℕ) → Stands (told h (Read buffer x p offset w) (readCall s buffer x p offset w .answer)) (readCall s buffer x p offset w .lent)
   unfolding readCall told taken here
-  stands-read buffer x p offset w = by-verdict here (Read buffer x p offset w) buffer (doneWith (readStep s p) (readBytes s p offset w buffer)) (judgeRead s (length buffer) x p offset w) go
+  stands-read buffer x p offset w = by-verdict Stands here (Read buffer x p offset w) buffer (doneWith (readStep s p) (readBytes s p offset w buffer)) (judgeRead s (length buffer) x p offset w) go
     where
       go : judgeRead s (length buffer) x p offset w ≡ Go → Stands h (readStep s p .lent)
       go e = up g done n (keeps-read p (read-went s (length buffer) x p offset w e .1) r)
 
   stands-update : (x p offset w kind v : ℕ) → Stands (told h (Update x p offset w kind v) (updateCall s x p offset w kind v .answer)) (updateCall s x p offset w kind v .lent)
   unfolding updateCall told taken updates here
-  stands-update x p offset w kind v = by-verdict here (Update x p offset w kind v) [] (doneWith (updated s (rowOf p offset w kind v x)) []) (judgeUpdate s x p offset w kind v) go
+  stands-update x p offset w kind v = by-verdict Stands here (Update x p offset w kind v) [] (doneWith (updated s (rowOf p offset w kind v x)) []) (judgeUpdate s x p offset w kind v) go
     where
       go : judgeUpdate s x p offset w kind v ≡ Go → Stands (updates h (rowOf p offset w kind v x)) (updated s (rowOf p offset w kind v x) .lent)
       go e =
@@ -109,7 +111,7 @@ module _ {g : Ground} {done : List (List ℕ)} {h : Past} {s : Lent} (n : h .dow
 
   stands-commit : (x : ℕ) → Stands (told h (Commit x) (commitCall s x .answer)) (commitCall s x .lent)
   unfolding commitCall told taken commits here
-  stands-commit x = by-verdict here (Commit x) [] (doneWith (committing s x) []) (judgeCommit s x) go
+  stands-commit x = by-verdict Stands here (Commit x) [] (doneWith (committing s x) []) (judgeCommit s x) go
     where
       go : judgeCommit s x ≡ Go → Stands (commits h x) (committing s x .lent)
       go e =
@@ -119,14 +121,14 @@ module _ {g : Ground} {done : List (List ℕ)} {h : Past} {s : Lent} (n : h .dow
 
   stands-abort : (x : ℕ) → Stands (told h (Abort x) (abortCall s x .answer)) (abortCall s x .lent)
   unfolding abortCall told taken aborts here
-  stands-abort x = by-verdict here (Abort x) [] (doneWith (aborted s x) []) (judgeAbort s x) go
+  stands-abort x = by-verdict Stands here (Abort x) [] (doneWith (aborted s x) []) (judgeAbort s x) go
     where
       go : judgeAbort s x ≡ Go → Stands (aborts h x) (aborted s x .lent)
       go e = let m = within x (abort-went s x e .1) in up g done n (keeps-abort x (m .0) (m .1) r)
 
   stands-compact : (p minDel maxAge : ℕ) → Stands (told h (Compact p minDel maxAge) (compactCall s p minDel maxAge .answer)) (compactCall s p minDel maxAge .lent)
   unfolding compactCall told taken here
-  stands-compact p minDel maxAge = by-verdict here (Compact p minDel maxAge) [] (dueOr (due s p minDel maxAge) s (doneWith (compacted s p) [])) (judgeCompact s p minDel maxAge) go
+  stands-compact p minDel maxAge = by-verdict Stands here (Compact p minDel maxAge) [] (dueOr (due s p minDel maxAge) s (doneWith (compacted s p) [])) (judgeCompact s p minDel maxAge) go
     where
       by-due : (b : Bool) → due s p minDel maxAge ≡ b → p < pagesOf s → Stands (told h (Compact p minDel maxAge) (dueOr b s (doneWith (compacted s p) []) .answer)) (dueOr b s (doneWith (compacted s p) []) .lent)
       by-due true e m = up g done n (keeps-compact p minDel maxAge m e r)
@@ -137,16 +139,16 @@ module _ {g : Ground} {done : List (List ℕ)} {h : Past} {s : Lent} (n : h .dow
 
   stands-close : Stands (told h Close (closeCall s .answer)) (closeCall s .lent)
   unfolding closeCall told taken here
-  stands-close = by-verdict here Close [] (doneWith (closed s) []) (judgeClose s) (λ e. up g done n (keeps-close r))
+  stands-close = by-verdict Stands here Close [] (doneWith (closed s) []) (judgeClose s) (λ e. up g done n (keeps-close r))
 
   stands-checkpoint : (minDel maxAge : ℕ) → Stands (told h (Checkpoint minDel maxAge) (checkpointCall s minDel maxAge .answer)) (checkpointCall s minDel maxAge .lent)
   unfolding checkpointCall told taken here
-  stands-checkpoint minDel maxAge = by-verdict here (Checkpoint minDel maxAge) [] (doneWith (checkpointed minDel maxAge s) []) (judgeCheckpoint s minDel maxAge) (λ e. up g done n (keeps-checkpoint minDel maxAge r))
+  stands-checkpoint minDel maxAge = by-verdict Stands here (Checkpoint minDel maxAge) [] (doneWith (checkpointed minDel maxAge s) []) (judgeCheckpoint s minDel maxAge) (λ e. up g done n (keeps-checkpoint minDel maxAge r))
 
 -- a restart, from a loss or without one
 stands-restart : {h : Past} {s : Lent} → Stands h s → Stands (told h Restart (restartCall s .answer)) (restartCall s .lent)
 unfolding restartCall told taken rises falls
-stands-restart {h} {s} st = by-verdict st Restart [] (doneWith (restarted s) []) (judgeRestart s) (λ e. go st)
+stands-restart {h} {s} st = by-verdict Stands st Restart [] (doneWith (restarted s) []) (judgeRestart s) (λ e. go st)
   where
     go : Stands h s → Stands (rises h) (restarted s .lent)
     go (up g done n r) = up g done refl (keeps-restart-up r)
@@ -180,7 +182,7 @@ unfolding formatCall fresh
 stands-format s size pages frames room span last m e = go (judgeFormat s size pages frames room span) refl e
   where
     go : (v : Verdict) → judgeFormat s size pages frames room span ≡ v → settled v s [] (doneWith (formatted s size pages frames room span last) []) .answer ≡ Done (record { reads = 0; writes = 0; logs = 0 }) → Stands (fresh size pages last (s .durable .stored)) (settled v s [] (doneWith (formatted s size pages frames room span last) []) .lent)
-    go Go f k = up (record { size = size; pages = pages; start = s .durable .stored; base = last }) [] refl (format-right s size pages frames room span last m f)
+    go Go f k = up (record { size = size; pages = pages; start = s .durable .stored; base = last }) [] refl (let w = format-went s size pages frames room span f in format-right s size pages frames room span last m (w .0) (w .2))
     go (Refuse why) f k = let z : _≡_ {A = Bool} false true = cc in absurd (mathlib.Core.Bool.false≢true z)
 
 stands-no-format : {h : Past} {s : Lent} → Stands h s → (size pages frames room span last : ℕ) (why : Refusal) → formatCall s size pages frames room span last .answer ≡ Refused why → Stands h (formatCall s size pages frames room span last .lent)

@@ -10,7 +10,6 @@ use Rattle.record.specs.Record.{rowOf}
 use Rattle.rules.specs.declared.Refusal.{Refusal}
 use Rattle.rules.specs.declared.Refusal.the-variants.{OnlineFull, LogFull}
 use Rattle.rules.specs.declared.Answer.{Answer}
-use Rattle.rules.specs.declared.Answer.the-variants.{Done, NotDue, Refused}
 use Rattle.rules.specs.declared.Verdict.{Verdict}
 use Rattle.rules.specs.declared.Verdict.the-variants.{Go, Refuse}
 use Rattle.rules.specs.Lent.{Lent}
@@ -20,6 +19,7 @@ use Rattle.history.specs.Past.{Past, fresh, falls}
 use Rattle.history.specs.Run.{Call, Begin, Commit, Abort, Evict, Read, Update, Compact, Checkpoint, Close, Restart, outcome, taken, told, Run, format, no-format, call, restart, loss, loss-inside}
 use Rattle.history.specs.Twins.{transaction, upkeep, isFull, full, Agree, acted, not-due, refused, Aside, keeping, not-formatted, Loses, between-calls, inside, Twins, formats, both, first, second, losses, restarts}
 use Rattle.history.proofs.Saying.{Unless, begin-said, read-said, update-said, commit-said, abort-said}
+use Rattle.theorem.proofs.Stands.{told-silent}
 use Rattle.theorem.proofs.Shows.{Rightly, run-right, restart-accepted, read-right}
 
 -- the answers agree and the buffers are equal
@@ -61,15 +61,9 @@ taken-aside h (Checkpoint minDel maxAge) e = refl
 taken-aside h Close e = refl
 taken-aside h Restart e = absurd (false≢true e)
 
-told-aside : (h : Past) (c : Call) → upkeep c ≡ true → (a : Answer) → told h c a ≡ h
-unfolding told
-told-aside h c e (Done counts) = taken-aside h c e
-told-aside h c e NotDue = refl
-told-aside h c e (Refused r) = refl
-
 -- what one store may do alone, and its losses, are a run's
 run-aside : {h : Past} {s t : Lent} → Run h s → Aside h s t → Run h t
-run-aside {h} {s} r (keeping n c e) = subst (λ (k : Past). Run k (outcome s c .lent)) (told-aside h c e (outcome s c .answer)) (call r n c)
+run-aside {h} {s} r (keeping n c e) = subst (λ (k : Past). Run k (outcome s c .lent)) (told-silent h c (taken-aside h c e) (outcome s c .answer)) (call r n c)
 run-aside r (not-formatted size pages frames room span last why e) = no-format r size pages frames room span last why e
 
 run-loses : {h : Past} {s t : Lent} → Run h s → Loses h s t → Run (falls h) t
