@@ -13,13 +13,14 @@ use Rattle.record.specs.Rows.{keep, consIf, any}
 use Rattle.record.specs.Record.{pageOf, numberOf, committed, applied, onPage, committedOn, gone, greatest}
 use Rattle.rules.specs.Lent.{stampAt}
 use Rattle.rules.specs.Sound.{every, pairs}
+use Rattle.rules.proofs.Every.{keep-within}
 use Rattle.rules.proofs.Extremes.{numberAtMost, greatest-all, greatest-most}
 use Rattle.rules.proofs.Needed.{open-stays}
 use Rattle.onlinecheck.proofs.Rows.{and-both, every-imp}
 use Rattle.redo.proofs.Order.{≈-picked}
 use Rattle.redo.proofs.Loose.{_≅_, then, ≅-equal, ≅-keep, ≅-free, ≅-every}
 use Rattle.redo.proofs.View.{keep-append}
-use Rattle.redo.proofs.Views.{rising, keep-keep, keep-same, keep-same-where, keep-both, keep-all, keep-none, stored-then-online}
+use Rattle.redo.proofs.Views.{rising, keep-keep, keep-same-where, keep-both, keep-all, keep-none, stored-then-online}
 use Rattle.redo.proofs.Reader.{every-kept-where}
 use Rattle.seats.proofs.Loops.{any-kept}
 use Rattle.history.proofs.Right.{uncommitted, aboveStamp}
@@ -81,13 +82,12 @@ folds-all p (r ∷ l) h = pick (onPage p r) (committed r) h (folds-all p l)
 
 -- the records of another page all stay
 pub stays-other : (p q : ℕ) → (q ≡ p → ⊥) → (l : List (List ℕ)) → keep (onPage q) (keep (stays p) l) ≡ keep (onPage q) l
-stays-other p q d l = keep-keep (onPage q) (stays p) l ∙ keep-same (λ (r : List ℕ). stays p r && onPage q r) (onPage q) (λ r. go r (onPage q r) refl) l
+stays-other p q d l = keep-within (onPage q) (stays p) in-place l
   where
-    go : (r : List ℕ) (t : Bool) → onPage q r ≡ t → (stays p r && t) ≡ t
-    go r true e =
+    in-place : (r : List ℕ) → onPage q r ≡ true → stays p r ≡ true
+    in-place r e =
         let n : onPage p r ≡ false = ne-eqb (pageOf r) p (λ z. d (sym (eqb-true (pageOf r) q e) ∙ z)) in
         rw n
-    go r false e = and-false (stays p r)
 
 -- online is what no stored page holds, then what is not committed: `above` is the test for the first
 module _ (p : ℕ) (above : List ℕ → Bool) (rows opened online : List (List ℕ)) (hc : every committed rows ≡ true) (ho : every uncommitted opened ≡ true) (is : online ≅ keep above rows ++ opened) where

@@ -13,10 +13,10 @@ use Rattle.record.specs.Record.{ownerOf, numberOf, committed, applied, onPage, 
 use Rattle.table.proofs.Laws.{Wide, none, one, wide-keep, wide-append, wide-number}
 use Rattle.rules.specs.Sound.{every}
 use Rattle.rules.proofs.Extremes.{numberAtMost}
-use Rattle.rules.proofs.Every.{or-right, every-kept}
+use Rattle.rules.proofs.Every.{or-right, every-kept, keep-within}
 use Rattle.onlinecheck.proofs.Rows.{every-imp}
 use Rattle.redo.proofs.View.{keep-append}
-use Rattle.redo.proofs.Views.{keep-keep, keep-same, keep-same-where, keep-swap, keep-all}
+use Rattle.redo.proofs.Views.{keep-keep, keep-same, keep-same-where, keep-swap}
 use Rattle.redo.proofs.Loose.{≅-every, owned-open}
 use Rattle.redo.proofs.Numbered.{every-not-owned, keep-others-all, numbered-committed, numbered-number}
 use Rattle.history.specs.Past.{Past, begins, updates, commits, aborts, falls, rises, startPage, shown}
@@ -42,11 +42,11 @@ update-keeps h r c =
 
 pub falls-keeps : (h : Past) → committedOf (falls h) ≡ committedOf h
 unfolding falls
-falls-keeps h = keep-all committed (committedOf h) (every-kept committed committed (λ r e. e) (h .made))
+falls-keeps h = keep-within committed committed (λ r e. e) (h .made)
 
 pub rises-keeps : (h : Past) → committedOf (rises h) ≡ committedOf h
 unfolding rises
-rises-keeps h = keep-all committed (committedOf h) (every-kept committed committed (λ r e. e) (h .made))
+rises-keeps h = keep-within committed committed (λ r e. e) (h .made)
 
 -- numbering from k on changes nothing that is committed under a smaller number
 number-keeps : (x k n : ℕ) → 1 ≤ x → n < k → {l : List (List ℕ)} → Wide 19 l → k + length (keep (ownedBy x) l) ≤ 4294967296 → keep (numberedTo n) (numberRows x k l) ≡ keep (numberedTo n) l

@@ -41,16 +41,18 @@ each-found c d f (r ∷ l) m g h =
     (g (d r) (or-left (d r r) (any (d r) l) (f r (e .0))))
     (each-found c d f l m (λ t k. g t (or-right (t r) (any t l) k)) (e .1))
 
+-- rows numbered from `first` to `last` have numbers
+between-numbered : (first last : ℕ) → 1 ≤ first → (l : List (List ℕ)) → every (λ (r : List ℕ). between first (numberOf r) last) l ≡ true → every hasNumber l ≡ true
+between-numbered first last low l h =
+    every-imp (λ (r : List ℕ). between first (numberOf r) last) hasNumber (λ r e. le-leb 1 (numberOf r) (omega (arith, leb-true first (numberOf r) (and-both (leb first (numberOf r)) (leb (numberOf r) last) e .0)))) l h
+
 -- the smallest number of rows numbered from `first` to `last`
 least-between : (first last : ℕ) → 1 ≤ first → (l : List (List ℕ)) → every (λ (r : List ℕ). between first (numberOf r) last) l ≡ true
     → (smallest 0 l ≡ 0) ⊎ ((first ≤ smallest 0 l) × (smallest 0 l ≤ last))
 least-between first last low [] h = inl smallest-nothing
 least-between first last low (r ∷ l) h =
-    inr (meet (λ (q : List ℕ). between first (numberOf q) last) (λ (q : List ℕ). eqb (numberOf q) (smallest 0 (r ∷ l))) (r ∷ l) h (smallest-found (r ∷ l) numbers (omega arith)) tell)
+    inr (meet (λ (q : List ℕ). between first (numberOf q) last) (λ (q : List ℕ). eqb (numberOf q) (smallest 0 (r ∷ l))) (r ∷ l) h (smallest-found (r ∷ l) (between-numbered first last low (r ∷ l) h) (omega arith)) tell)
   where
-    numbers : every hasNumber (r ∷ l) ≡ true
-    numbers = every-imp (λ (q : List ℕ). between first (numberOf q) last) hasNumber (λ q e. le-leb 1 (numberOf q) (omega (arith, leb-true first (numberOf q) (and-both (leb first (numberOf q)) (leb (numberOf q) last) e .0)))) (r ∷ l) h
-
     tell : (q : List ℕ) → between first (numberOf q) last ≡ true → eqb (numberOf q) (smallest 0 (r ∷ l)) ≡ true → (first ≤ smallest 0 (r ∷ l)) × (smallest 0 (r ∷ l) ≤ last)
     tell q e k =
         let f : (leb first (numberOf q) ≡ true) × (leb (numberOf q) last ≡ true) = and-both (leb first (numberOf q)) (leb (numberOf q) last) e in
@@ -94,7 +96,7 @@ module _ (above : List ℕ → Bool) (rows opened : List (List ℕ)) {online : L
 
       -- they have numbers, and none below `first`
       pub kept-numbered : every hasNumber (keep d online) ≡ true
-      kept-numbered = every-imp (λ (r : List ℕ). between first (numberOf r) last) hasNumber (λ r e. le-leb 1 (numberOf r) (omega (arith, leb-true first (numberOf r) (and-both (leb first (numberOf r)) (leb (numberOf r) last) e .0)))) (keep d online) kept-within
+      kept-numbered = between-numbered first last low (keep d online) kept-within
 
       pub kept-from : every (λ (r : List ℕ). leb first (numberOf r)) (keep d online) ≡ true
       kept-from = every-imp (λ (r : List ℕ). between first (numberOf r) last) (λ (r : List ℕ). leb first (numberOf r)) (λ r e. and-both (leb first (numberOf r)) (leb (numberOf r) last) e .0) (keep d online) kept-within

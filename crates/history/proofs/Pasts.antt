@@ -3,7 +3,7 @@
 use Prim.Native.Nat.{ℕ, _+_, _≤_}
 use native.Mathlib.Omega.{arith}
 use mathlib.Core.Path.{_≡_, refl, sym, ap, _∙_, subst}
-use mathlib.Core.Bool.{Bool, true, false, not, _&&_, _||_, or-true, and-false}
+use mathlib.Core.Bool.{Bool, true, false, not, _&&_, _||_, or-true}
 use mathlib.Core.List.{List, [], _∷_, _++_, map, append-assoc}
 use lib.ListN.{length, length-append, length-map}
 use lib.Seq.{getD-take}
@@ -12,10 +12,10 @@ use Rattle.record.specs.Rows.{keep, consIf}
 use Rattle.record.specs.Record.{ownerOf, numberOf, committed, ownedBy, bodyOf, wellFormed}
 use Rattle.table.proofs.Laws.{Wide, none, one, wide-keep, wide-append, wide-bodies}
 use Rattle.rules.specs.Sound.{every, pairs, between, apart}
-use Rattle.rules.proofs.Every.{every-kept}
+use Rattle.rules.proofs.Every.{every-kept, keep-within}
 use Rattle.onlinecheck.proofs.Rows.{and-both, every-imp}
 use Rattle.redo.proofs.View.{SameBody, keep-append}
-use Rattle.redo.proofs.Views.{keep-keep, keep-same, keep-swap, keep-all}
+use Rattle.redo.proofs.Views.{keep-swap, keep-all}
 use Rattle.redo.proofs.Loose.{_≅_, still, then, numberedFrom, ≅-sym, ≅-equal, ≅-before, ≅-keep, ≅-wide, ≅-number, owned-open}
 use Rattle.redo.proofs.Numbered.{body-formed, keep-open-none, keep-others-all, numberedFrom-append, numberedFrom-wide}
 use Rattle.redo.proofs.Commits.{commit-loose, commit-open}
@@ -87,11 +87,7 @@ open-rises h = open-none (h .made)
 
 -- an owner's updates are all uncommitted
 pub owned-made : (h : Past) (x : ℕ) → 1 ≤ x → keep (ownedBy x) (h .made) ≡ keep (ownedBy x) (openOf h)
-owned-made h x m = sym (keep-keep (ownedBy x) uncommitted (h .made) ∙ keep-same (λ (r : List ℕ). uncommitted r && ownedBy x r) (ownedBy x) (λ r. go r (ownedBy x r) refl) (h .made))
-  where
-    go : (r : List ℕ) (t : Bool) → ownedBy x r ≡ t → (uncommitted r && t) ≡ t
-    go r true e = ap (λ (s : Bool). not s && true) (owned-open x m r e)
-    go r false e = and-false (uncommitted r)
+owned-made h x m = sym (keep-within (ownedBy x) uncommitted (λ r e. ap not (owned-open x m r e)) (h .made))
 
 -- a step that commits nothing: what is made, who is live, whether a restart is awaited; `opened` is what it leaves uncommitted
 past-moved : {g : Ground} {done : List (List ℕ)} {h : Past} → PastRight g done h → (made opened : List (List ℕ)) (live : ℕ → Bool) (down : Bool)

@@ -11,14 +11,15 @@ use borrow.Author.Tests.{ltb-true, ltb-false, lt-ltb, le-leb, lt-leb}
 use Rattle.record.specs.Rows.{consIf, keep}
 use Rattle.record.specs.Record.{pageOf, numberOf, entered, committed}
 use Rattle.table.proofs.Laws.{Wide, none, one, wide-drop, wide-keep}
-use Rattle.rules.specs.Lent.{Lent, Lost, pagesOf, framesOf, roomOf, lastOf, closedOf, loggedOf, stampOf, dirtyOf, firstOf}
+use Rattle.rules.specs.Lent.{Lent, Lost, pagesOf, framesOf, roomOf, closedOf, loggedOf, stampOf, dirtyOf, firstOf}
 use Rattle.rules.specs.Steps.{enters, entering, enteringAll, restarted}
 use Rattle.rules.specs.Sound.{every}
+use Rattle.rules.proofs.Every.{keep-within}
 use Rattle.rules.proofs.Needed.{enters-above}
 use Rattle.onlinecheck.proofs.Rows.{and-both, every-imp}
 use Rattle.redo.proofs.Loose.{numberedFrom, ≅-equal}
 use Rattle.redo.proofs.Numbered.{entered-page, entered-number, numberedFrom-wide}
-use Rattle.redo.proofs.Views.{keep-keep, keep-same, keep-same-where}
+use Rattle.redo.proofs.Views.{keep-same-where}
 use Rattle.seats.proofs.Loops.{evictedEntries, evicted-length, seated-restart, restart-unframed, restart-dirty}
 use Rattle.readback.proofs.Seen.{Areas}
 use Rattle.readback.proofs.Lost.{reads-restarted}
@@ -171,14 +172,7 @@ keeps-loss {h = h} l f r = record { past = past-falls (r .past); durable = r .du
 -- what a loss left of the history, a restart leaves
 pub rises-falls : (h : Past) → rises (falls h) ≡ rises h
 unfolding rises falls
-rises-falls h = ap (λ (l : List (List ℕ)). record { size = h .size; pages = h .pages; start = h .start; last = h .last; made = l; live = λ (y : ℕ). false; down = false }) twice
-  where
-    both-same : (b : Bool) → (b && b) ≡ b
-    both-same true = refl
-    both-same false = refl
-
-    twice : keep committed (keep committed (h .made)) ≡ keep committed (h .made)
-    twice = keep-keep committed committed (h .made) ∙ keep-same (λ (r : List ℕ). committed r && committed r) committed (λ r. both-same (committed r)) (h .made)
+rises-falls h = ap (λ (l : List (List ℕ)). record { size = h .size; pages = h .pages; start = h .start; last = h .last; made = l; live = λ (y : ℕ). false; down = false }) (keep-within committed committed (λ r e. e) (h .made))
 
 -- restart while power was never lost
 pub keeps-restart-up : {g : Ground} {done : List (List ℕ)} {h : Past} {s : Lent} → Right g done h s → Right g done (rises h) (restarted s .lent)
