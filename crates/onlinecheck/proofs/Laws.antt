@@ -12,7 +12,7 @@ use borrow.Author.Tests.{eqb-true, eqb-false, le-leb, lt-leb, eq-eqb, ne-eqb}
 use Rattle.word.specs.Word.{num}
 use Rattle.record.specs.Part.{part}
 use Rattle.record.specs.Rows.{rowAt, rows}
-use Rattle.record.specs.Record.{pageOf, ownerOf, numberOf, committed, bodyOf, wellFormed}
+use Rattle.record.specs.Record.{pageOf, offsetOf, lengthOf, ownerOf, numberOf, committed, bodyOf, wellFormed, shareByte}
 use Rattle.rules.specs.Lent.{Lent, sizeOf, pagesOf, framesOf, lastOf, loggedOf, countOf}
 use Rattle.rules.specs.Sound.{every, pairs, between, zeros, same, apart, owning, s7-online-records, s8-owners, s14-online-zero, s10-in-log, s11-above-stamp, s9-number-once, s12-dirty, s13-apart}
 use Rattle.onlinecheck.specs.Online.{owned, inLog, aboveStamp, otherNumber, entryAgrees, pageBelow, numberUpTo, onlineTest}
@@ -149,6 +149,22 @@ unfolding aboveStamp
 above-row marks r x p k stamp a b d h e = rw (← a, ← b, ← d, h, ← e)
 
 -- S13
+pub share-other : (r q : List ℕ) (a b : ℕ) → a ≡ pageOf r → b ≡ pageOf q → (a ≡ b → ⊥) → false ≡ shareByte r q
+unfolding shareByte
+share-other r q a b e f h = rw (← e, ← f, ne-eqb a b h)
+
+pub share-same : (r q : List ℕ) (a b o k p l : ℕ) → a ≡ pageOf r → b ≡ pageOf q → a ≡ b → o ≡ offsetOf r → k ≡ lengthOf r → p ≡ offsetOf q → l ≡ lengthOf q → (ltb o (p + l) && ltb p (o + k)) ≡ shareByte r q
+unfolding shareByte
+share-same r q a b o k p l e f h eo ek ep el = rw (← e, ← f, eq-eqb a b h, eo, ek, ep, el)
+
+pub apart-free : (r q : List ℕ) (x y : ℕ) → x ≡ ownerOf r → y ≡ ownerOf q → (eqb x 0 || eqb y 0 || eqb x y) ≡ true → true ≡ apart r q
+unfolding apart
+apart-free r q x y e f h = rw (← e, ← f, h)
+
+pub apart-row : (r q : List ℕ) (x y : ℕ) (b : Bool) → x ≡ ownerOf r → y ≡ ownerOf q → (eqb x 0 || eqb y 0 || eqb x y) ≡ false → b ≡ shareByte r q → not b ≡ apart r q
+unfolding apart
+apart-row r q x y b e f h g = rw (← e, ← f, h, g)
+
 -- a committed row is apart from every other
 pub apart-all : (r : List ℕ) (x : ℕ) → x ≡ ownerOf r → x ≡ 0 → (l : List (List ℕ)) → true ≡ every (apart r) l
 unfolding every apart

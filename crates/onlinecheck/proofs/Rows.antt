@@ -6,7 +6,7 @@ use mathlib.Core.Bool.{Bool, true, false, not, _&&_, and-true, and-assoc}
 use mathlib.Core.List.{List, [], _∷_}
 use borrow.Author.Tests.{not-true, not-false}
 use Rattle.record.specs.Rows.{rowAt, rows}
-use Rattle.rules.specs.Sound.{every, upTo}
+use Rattle.rules.specs.Sound.{every, pairs, upTo}
 
 pub and-both : (a b : Bool) → (a && b) ≡ true → (a ≡ true) × (b ≡ true)
 and-both true b h = (refl, h)
@@ -64,6 +64,28 @@ every-turn b w m t i x z p h e inv =
 pub every-done : (b : List ℕ → Bool) (w m : ℕ) (t : List ℕ) (i : ℕ) (z : Bool) → m ≤ i → every b (rows w (m - i) t i) ≡ z → true ≡ z
 unfolding every rows
 every-done b w m t i z p inv = let n : m - i ≡ 0 = omega arith in rw n at inv
+
+-- the same for each two rows, where x says that a row passes with all later ones
+pub pairs-none : (b : List ℕ → List ℕ → Bool) (w m : ℕ) (t : List ℕ) → pairs b (rows w (m - 0) t 0) ≡ pairs b (rows w m t 0)
+pairs-none b w m t = let n : m - 0 ≡ m = omega arith in rw n
+
+pub pairs-fail : (b : List ℕ → List ℕ → Bool) (w m : ℕ) (t : List ℕ) (i : ℕ) (x z : Bool) → i < m → not x ≡ true → x ≡ every (b (rowAt w t i)) (rows w (m - (i + 1)) t (i + 1)) → pairs b (rows w (m - i) t i) ≡ z → false ≡ z
+unfolding pairs rows
+pairs-fail b w m t i x z p h e inv =
+    let n : m - i ≡ suc (m - (i + 1)) = omega arith in
+    let f = failed e h in
+    rw (n, f) at inv
+
+pub pairs-turn : (b : List ℕ → List ℕ → Bool) (w m : ℕ) (t : List ℕ) (i : ℕ) (x z : Bool) → i < m → not x ≡ false → x ≡ every (b (rowAt w t i)) (rows w (m - (i + 1)) t (i + 1)) → pairs b (rows w (m - i) t i) ≡ z → pairs b (rows w (m - (i + 1)) t (i + 1)) ≡ z
+unfolding pairs rows
+pairs-turn b w m t i x z p h e inv =
+    let n : m - i ≡ suc (m - (i + 1)) = omega arith in
+    let f = passed e h in
+    rw (n, f) at inv
+
+pub pairs-done : (b : List ℕ → List ℕ → Bool) (w m : ℕ) (t : List ℕ) (i : ℕ) (z : Bool) → m ≤ i → pairs b (rows w (m - i) t i) ≡ z → true ≡ z
+unfolding pairs rows
+pairs-done b w m t i z p inv = let n : m - i ≡ 0 = omega arith in rw n at inv
 
 -- the same for numbers
 pub upTo-none : (b : ℕ → Bool) (m : ℕ) → upTo b (m - 0) 0 ≡ upTo b m 0

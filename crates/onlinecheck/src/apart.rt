@@ -10,6 +10,7 @@ ghost use Rattle.record.specs.Record.{pageOf};
 ghost use Rattle.rules.specs.Sound.{every, pairs, upTo, apart};
 ghost use Rattle.onlinecheck.specs.Online.{pageBelow};
 ghost use Rattle.onlinecheck.specs.Bytes.{openOn, placed, Linked, headsWith, afterWith, freeByte, markBytes, freeRow, withRow, freeRows, withRows, crowd, freePages};
+use super::few;
 
 // Row i goes in front of its page's chain, unless it is committed.
 fn link_row(t: &[u8], i: usize, heads: &mut [u16; 1024], after: &mut [u16; 512])
@@ -172,13 +173,16 @@ fn one_owner(t: &[u8], m: usize) -> bool
     true
 }
 
-// The rows of one owner clash with none, so chains and marks are for two owners or more.
+// The rows of one owner clash with none, so chains and marks are for two owners or more, and pay once rows are many.
 pub fn all_apart(t: &[u8], m: usize, pages: usize) -> bool
     requires { ⌜ (m * 19 ≤ length (now t)) × (m ≤ 512) × (pages ≤ 1024) × (every (pageBelow pages) (rows 19 m (now t) 0) ≡ true) × (every placed (rows 19 m (now t) 0) ≡ true) ⌝ }
     ensures { λ r. ⌜ r ≡ pairs apart (rows 19 m (now (t .entry)) 0) ⌝ }
 {
     if one_owner(t, m) {
         return true;
+    }
+    if m <= 16 {
+        return few::all_apart_few(t, m);
     }
     by_pages(t, m, pages)
 }

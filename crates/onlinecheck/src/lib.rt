@@ -19,6 +19,7 @@ mod logged; // S10
 mod stamped; // S11
 mod once; // S9
 mod dirty; // S12
+mod few; // S13, few rows
 mod apart; // S13
 
 // The rows by themselves, with their owners and the log.
