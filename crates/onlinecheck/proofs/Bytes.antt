@@ -13,7 +13,7 @@ use Rattle.record.specs.Record.{pageOf, offsetOf, lengthOf, ownerOf, numberOf, 
 use Rattle.rules.specs.Sound.{every, pairs, upTo, between, apart}
 use Rattle.onlinecheck.specs.Online.{owned, pageBelow}
 use Rattle.onlinecheck.specs.Bytes.{openOn, placed, freeByte, markBytes, freeRow, withRow, freeRows, withRows, crowd, freePages}
-use Rattle.onlinecheck.proofs.Rows.{and-both, passed, failed, upTo-fail, upTo-turn, upTo-done}
+use Rattle.onlinecheck.proofs.Rows.{and-both, and-swap, passed, failed, upTo-fail, upTo-turn, upTo-done}
 use Rattle.onlinecheck.proofs.Laws.{apart-all}
 
 -- two tests, each of which holds if the other does
@@ -202,12 +202,7 @@ rows-with p base a r n o h f (q ∷ l) g k =
     let u = and-both (openOn p q) (every (openOn p) l) g in
     let v = and-both (placed q) (every placed l) k in
     rw (row-with p base a r q n o (u .0) h (v .0) f, rows-with p base a r n o h f l (u .1) (v .1))
-    (swap (freeRow base a q) (apart r q) (every (freeRow base a) l) (every (apart r) l))
-  where
-    swap : (x y u v : Bool) → (x && y && (u && v)) ≡ (x && u && (y && v))
-    swap true true u v = refl
-    swap true false u v = sym (and-false u)
-    swap false y u v = refl
+    (and-swap (freeRow base a q) (apart r q) (every (freeRow base a) l) (every (apart r) l))
 
 -- each row of a page free when its turn comes: free of the marks at the start, and all apart
 rows-pairs : (p base : ℕ) (l : List (List ℕ)) (a : List ℕ) → length a ≡ 4096 → every (openOn p) l ≡ true → every placed l ≡ true → freeRows base a l ≡ (every (freeRow base a) l && pairs apart l)
@@ -381,11 +376,11 @@ place size pages last tables s (r ∷ l) h g =
     rw (place-one size pages last tables r s (u .0) (v .0)) (place size pages last tables s l (u .1) (v .1))
 
 -- so the clauses of the rows by themselves give it
-pub place-give : (tables : List ℕ) (size pages last : ℕ) (l : List (List ℕ)) (x z u : Bool) → size ≤ 4096 → x ≡ (every (wellFormed size pages) l && every (owned tables last) l && z && u) → not x ≡ false → every placed l ≡ true
-place-give tables size pages last l x z u s e h =
+pub place-give : (tables : List ℕ) (size pages last : ℕ) (l : List (List ℕ)) (z u : Bool) → size ≤ 4096 → (every (wellFormed size pages) l && every (owned tables last) l && z && u) ≡ true → every placed l ≡ true
+place-give tables size pages last l z u s h =
     let f = every (wellFormed size pages) l in
     let o = every (owned tables last) l in
-    let b = and-both f o (and-both (f && o) z (and-both (f && o && z) u (passed e h) .0) .0) in
+    let b = and-both f o (and-both (f && o) z (and-both (f && o && z) u h .0) .0) in
     place size pages last tables s l (b .0) (b .1)
 
 -- the loop over a row's bytes: those from k on are as they were, and decide as all do

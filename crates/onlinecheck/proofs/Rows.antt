@@ -2,7 +2,7 @@
 use Prim.Native.Nat.{ℕ, zero, suc, _+_, _-_, _≤_, _<_}
 use native.Mathlib.Omega.{arith}
 use mathlib.Core.Path.{_≡_, refl, sym, _∙_}
-use mathlib.Core.Bool.{Bool, true, false, not, _&&_, and-true, and-assoc}
+use mathlib.Core.Bool.{Bool, true, false, not, _&&_, and-true, and-false, and-assoc}
 use mathlib.Core.List.{List, [], _∷_}
 use borrow.Author.Tests.{not-true, not-false}
 use Rattle.record.specs.Rows.{rowAt, rows}
@@ -18,6 +18,17 @@ passed {x} {a} e h = sym e ∙ not-false x h
 
 pub failed : {x a : Bool} → x ≡ a → not x ≡ true → a ≡ false
 failed {x} {a} e h = sym e ∙ not-true x h
+
+pub and-swap : (x y u v : Bool) → (x && y && (u && v)) ≡ (x && u && (y && v))
+and-swap true true u v = refl
+and-swap true false u v = sym (and-false u)
+and-swap false y u v = refl
+
+-- two tests in one
+pub every-both : (b d : List ℕ → Bool) (l : List (List ℕ)) → every (λ r. b r && d r) l ≡ (every b l && every d l)
+unfolding every
+every-both b d [] = refl
+every-both b d (r ∷ l) = rw (every-both b d l) (and-swap (b r) (d r) (every b l) (every d l))
 
 -- a test that each passes implies another
 pub every-imp : (b d : List ℕ → Bool) → ((r : List ℕ) → b r ≡ true → d r ≡ true) → (l : List (List ℕ)) → every b l ≡ true → every d l ≡ true
