@@ -16,7 +16,7 @@ use Rattle.rules.specs.Lent.{isDirty}
 use Rattle.rules.specs.Sound.{every, pairs, upTo, between, same, agree}
 use Rattle.onlinecheck.specs.Online.{owned, inLog, otherNumber, entryAgrees, pageBelow}
 use Rattle.onlinecheck.specs.Marks.{markPages, entryMarked, slotted, free, withNumber, allFree}
-use Rattle.onlinecheck.proofs.Rows.{and-both, every-imp, passed, failed}
+use Rattle.onlinecheck.proofs.Rows.{and-both, and-swap, every-imp, passed, failed}
 use Rattle.onlinecheck.proofs.Laws.{formed-page}
 
 -- S12: a page is marked if it was, or if a row is of it
@@ -133,12 +133,7 @@ free-each first a r n f [] h = refl
 free-each first a r n f (q ∷ l) h =
     let g = and-both (slotted first q) (every (slotted first) l) h in
     rw (free-one first a (numberOf r) (numberOf q) n f (g .0), free-each first a r n f l (g .1))
-    (swap (free first a q) (otherNumber r q) (every (free first a) l) (every (otherNumber r) l))
-  where
-    swap : (x y u v : Bool) → (x && y && (u && v)) ≡ (x && u && (y && v))
-    swap true true u v = refl
-    swap true false u v = sym (and-false u)
-    swap false y u v = refl
+    (and-swap (free first a q) (otherNumber r q) (every (free first a) l) (every (otherNumber r) l))
 
 -- each row free when its turn comes: free of the marks at the start, and no number twice
 free-pairs : (first : ℕ) (l : List (List ℕ)) (a : List ℕ) → length a ≡ 2048 → every (slotted first) l ≡ true → allFree first l a ≡ (every (free first a) l && pairs otherNumber l)
