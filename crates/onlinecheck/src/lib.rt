@@ -61,7 +61,7 @@ fn sound_ties(
     if !dirty::all_agree(online, m, tables, pages, frames) {
         return false;
     }
-    apart::all_apart(online, m, pages)
+    apart::all_apart(online, m)
 }
 
 // The first m rows of the online table are sound with the n log rows, the stamps and the tables; `last` is the last log number.

@@ -1,5 +1,8 @@
 -- `onlinecheck::sound_ties` meets its contract: each way out by the tests that led there.
 use borrow.Author.Needs.{needs}
+use denote.Ref.{now}
+use Rattle.record.specs.Rows.{rows}
+use Rattle.onlinecheck.proofs.Marks.{pages-within}
 use Rattle.onlinecheck.proofs.Rows.{passed, failed}
 use Rattle.onlinecheck.proofs.sound_ties.Statement.{statement}
 use Rattle.onlinecheck.proofs.sound_ties.Tie as tie
@@ -21,7 +24,9 @@ returns-2 c =
     )
 
 all-apart-requires : tie.Need-all-apart-requires
-all-apart-requires c κs = search needs
+all-apart-requires c κs =
+    let s = c .before .before .before .before .before .before in
+    (s .pre .0, s .pre .5, pages-within (s .args .pages) (rows 19 (s .args .m) (now (s .args .online)) 0) (s .pre .2) (s .pre .3), s .pre .6)
 
 returns-3 : tie.Need-returns-3
 returns-3 c =
