@@ -13,7 +13,7 @@ use Rattle.record.specs.Record.{pageOf, offsetOf, lengthOf, ownerOf, numberOf, 
 use Rattle.rules.specs.Sound.{every, pairs, upTo, between, apart}
 use Rattle.onlinecheck.specs.Online.{owned, pageBelow}
 use Rattle.onlinecheck.specs.Bytes.{openOn, placed, Chain, Linked, Passed, freeByte, markBytes, freeRow, withRow, freeRows, withRows}
-use Rattle.onlinecheck.proofs.Rows.{and-both, and-swap, upTo-fail, upTo-turn, upTo-done}
+use Rattle.onlinecheck.proofs.Rows.{and-both, and-swap, passed, upTo-fail, upTo-turn, upTo-done}
 use Rattle.onlinecheck.proofs.Laws.{apart-all}
 use Rattle.onlinecheck.proofs.Chains.{chain-none, chain-one, chain-first}
 
@@ -411,11 +411,11 @@ place size pages last tables s (r ∷ l) h g =
     rw (place-one size pages last tables r s (u .0) (v .0)) (place size pages last tables s l (u .1) (v .1))
 
 -- so the clauses of the rows by themselves give it
-pub place-give : (tables : List ℕ) (size pages last : ℕ) (l : List (List ℕ)) (z u : Bool) → size ≤ 4096 → (every (wellFormed size pages) l && every (owned tables last) l && z && u) ≡ true → every placed l ≡ true
-place-give tables size pages last l z u s h =
+pub place-give : (tables : List ℕ) (size pages last : ℕ) (l : List (List ℕ)) (x z u y : Bool) → size ≤ 4096 → x ≡ (every (wellFormed size pages) l && every (owned tables last) l && z && u && y) → not x ≡ false → every placed l ≡ true
+place-give tables size pages last l x z u y s e h =
     let f = every (wellFormed size pages) l in
     let o = every (owned tables last) l in
-    let b = and-both f o (and-both (f && o) z (and-both (f && o && z) u h .0) .0) in
+    let b = and-both f o (and-both (f && o) z (and-both (f && o && z) u (and-both (f && o && z && u) y (passed e h) .0) .0) .0) in
     place size pages last tables s l (b .0) (b .1)
 
 -- the loop over a row's bytes: those from k on are as they were, and decide as all do

@@ -203,10 +203,11 @@ unfolding free withNumber
 take-one first a r k e h = (rw (← e, ne-eqb k 0 h), rw (← e, ne-eqb k 0 h))
 
 -- what the clauses of the rows by themselves give to the others
-pub rows-give : (tables log : List ℕ) (size pages last n : ℕ) (l : List (List ℕ)) (z : Bool) → n ≤ last → n ≤ 2048 → (every (wellFormed size pages) l && every (owned tables last) l && z && every (inLog log (last - n + 1)) l) ≡ true → (every (pageBelow pages) l ≡ true) × (every (slotted (last - n + 1)) l ≡ true)
-rows-give tables log size pages last n l z p q h =
+pub rows-give : (tables log : List ℕ) (size pages last n : ℕ) (l : List (List ℕ)) (x z y : Bool) → n ≤ last → n ≤ 2048 → x ≡ (every (wellFormed size pages) l && every (owned tables last) l && z && every (inLog log (last - n + 1)) l && y) → not x ≡ false → (every (pageBelow pages) l ≡ true) × (every (slotted (last - n + 1)) l ≡ true)
+rows-give tables log size pages last n l x z y p q e h =
     let f = every (wellFormed size pages) l in
     let o = every (owned tables last) l in
-    let a = and-both (f && o && z) (every (inLog log (last - n + 1)) l) h in
+    let g = every (inLog log (last - n + 1)) l in
+    let a = and-both (f && o && z) g (and-both (f && o && z && g) y (passed e h) .0) in
     let b = and-both f o (and-both (f && o) z (a .0) .0) in
     (formed-page size pages l (b .0), slots tables log (last - n + 1) last n refl p q l (b .1) (a .1))

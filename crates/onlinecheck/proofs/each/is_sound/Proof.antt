@@ -3,6 +3,7 @@ use borrow.Author.Needs.{needs}
 use borrow.Author.Tests.{ltb-true}
 use denote.Ref.{now}
 use Rattle.record.specs.Rows.{rowAt}
+use Rattle.record.specs.Record.{wellFormed}
 use Rattle.onlinecheck.proofs.Laws.{formed-below, owned-number}
 use Rattle.onlinecheck.proofs.Rows.{passed, failed}
 use Rattle.onlinecheck.proofs.each.is_sound.Statement.{statement}
@@ -40,7 +41,7 @@ returns-3 c =
 is-above-requires : tie.Need-is-above-requires
 is-above-requires c κs =
     let a = c .before .before .before .before .before .before .before .before .before .before .args in
-    (search needs, search needs, ltb-true _ _ (formed-below (a .size) (a .pages) (rowAt 19 (now (a .t)) (a .i)) (passed (c .before .before .before .before .before .well-formed .ensures) (c .before .before .before .before .if1 .left))))
+    (search needs, search needs, ltb-true _ _ (formed-below (a .size) (a .pages) (rowAt 19 (now (a .t)) (a .i)) (passed {a = wellFormed (a .size) (a .pages) (rowAt 19 (now (a .t)) (a .i))} (c .before .before .before .before .before .well-formed .ensures) (c .before .before .before .before .if1 .left))))
 
 returns-4 : tie.Need-returns-4
 returns-4 c =
