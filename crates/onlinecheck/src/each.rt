@@ -6,8 +6,8 @@ ghost use lib.ListN.{length};
 ghost use Rattle.record.specs.Rows.{rowAt, rows};
 ghost use Rattle.rules.specs.Sound.{every};
 ghost use Rattle.onlinecheck.specs.Online.{rowTest};
-use super::owned;
 use super::logged;
+use super::owned;
 use super::stamped;
 
 fn is_sound(
