@@ -7,14 +7,15 @@ use mathlib.Core.List.{List, [], _∷_}
 use lib.ListN.{length, getD, set, replicate, length-set, length-replicate}
 use lib.Seq.{getD-set-same, getD-set-other, set-out}
 use lib.Dec.{eqb, leb, ltb}
-use borrow.Author.Tests.{ltb-true, ltb-false, leb-true, leb-false, eqb-true, eqb-false, lt-ltb, le-ltb, le-leb, eq-eqb, ne-eqb, not-true, not-false}
-use Rattle.record.specs.Rows.{keep, consIf}
+use borrow.Author.Tests.{ltb-true, ltb-false, leb-true, leb-false, eqb-true, eqb-false, lt-ltb, le-ltb, le-leb, eq-eqb, ne-eqb, not-true}
+use Rattle.record.specs.Rows.{rowAt, rows, keep, consIf}
 use Rattle.record.specs.Record.{pageOf, offsetOf, lengthOf, ownerOf, numberOf, committed, shareByte, isLength, wellFormed}
 use Rattle.rules.specs.Sound.{every, pairs, upTo, between, apart}
 use Rattle.onlinecheck.specs.Online.{owned, pageBelow}
-use Rattle.onlinecheck.specs.Bytes.{openOn, placed, freeByte, markBytes, freeRow, withRow, freeRows, withRows, crowd, freePages}
-use Rattle.onlinecheck.proofs.Rows.{and-both, passed, failed, upTo-fail, upTo-turn, upTo-done}
+use Rattle.onlinecheck.specs.Bytes.{openOn, placed, Chain, Linked, Passed, freeByte, markBytes, freeRow, withRow, freeRows, withRows}
+use Rattle.onlinecheck.proofs.Rows.{and-both, and-swap, passed, upTo-fail, upTo-turn, upTo-done}
 use Rattle.onlinecheck.proofs.Laws.{apart-all}
+use Rattle.onlinecheck.proofs.Chains.{chain-none, chain-one, chain-first}
 
 -- two tests, each of which holds if the other does
 same-test : (x y : Bool) → (x ≡ true → y ≡ true) → (y ≡ true → x ≡ true) → x ≡ y
@@ -202,12 +203,7 @@ rows-with p base a r n o h f (q ∷ l) g k =
     let u = and-both (openOn p q) (every (openOn p) l) g in
     let v = and-both (placed q) (every placed l) k in
     rw (row-with p base a r q n o (u .0) h (v .0) f, rows-with p base a r n o h f l (u .1) (v .1))
-    (swap (freeRow base a q) (apart r q) (every (freeRow base a) l) (every (apart r) l))
-  where
-    swap : (x y u v : Bool) → (x && y && (u && v)) ≡ (x && u && (y && v))
-    swap true true u v = refl
-    swap true false u v = sym (and-false u)
-    swap false y u v = refl
+    (and-swap (freeRow base a q) (apart r q) (every (freeRow base a) l) (every (apart r) l))
 
 -- each row of a page free when its turn comes: free of the marks at the start, and all apart
 rows-pairs : (p base : ℕ) (l : List (List ℕ)) (a : List ℕ) → length a ≡ 4096 → every (openOn p) l ≡ true → every placed l ≡ true → freeRows base a l ≡ (every (freeRow base a) l && pairs apart l)
@@ -262,32 +258,6 @@ keep-every d (r ∷ l) = pick (d r) refl (keep-every d l)
     pick : (x : Bool) → d r ≡ x → every d (keep d l) ≡ true → every d (consIf x r (keep d l)) ≡ true
     pick true e k = rw e k
     pick false e k = k
-
--- leaving out a row that is alone keeps what all pass, and what each two do
-crowd-every : (b : List ℕ → Bool) (l : List (List ℕ)) → every b l ≡ true → every b (crowd l) ≡ true
-unfolding every
-crowd-every b [] h = refl
-crowd-every b (r ∷ []) h = refl
-crowd-every b (r ∷ (q ∷ l)) h = h
-
-crowd-pairs : (l : List (List ℕ)) → pairs apart (crowd l) ≡ pairs apart l
-unfolding every pairs
-crowd-pairs [] = refl
-crowd-pairs (r ∷ []) = refl
-crowd-pairs (r ∷ (q ∷ l)) = refl
-
--- page by page, from marks that no page from p on has set
-pages-are : (rs : List (List ℕ)) (n p : ℕ) (a : List ℕ) → length a ≡ 4096 → ((b : ℕ) → getD a b 0 ≤ p * 64) → every placed rs ≡ true → freePages rs n p a ≡ upTo (λ (q : ℕ). pairs apart (keep (openOn q) rs)) n p
-unfolding upTo freePages
-pages-are rs zero p a n f h = refl
-pages-are rs (suc k) p a n f h =
-    let s = keep (openOn p) rs in
-    let l = crowd s in
-    let g : every placed l ≡ true = crowd-every placed s (every-keep placed (openOn p) rs h) in
-    let o : every (openOn p) l ≡ true = crowd-every (openOn p) s (keep-every (openOn p) rs) in
-    let e : freeRows (p * 64) a l ≡ pairs apart s = rows-apart p (p * 64) l a n f o g ∙ crowd-pairs s in
-    let d = pages-are rs k (p + 1) (withRows (p * 64) a l) (rows-length (p * 64) l a ∙ n) (rows-most ((p + 1) * 64) (p * 64) l a (omega arith) g (λ b. omega (arith, f b))) h in
-    rw (e, d)
 
 -- an uncommitted row is apart from all that are apart from it on its page
 apart-off : (r q : List ℕ) → openOn (pageOf r) q ≡ false → apart r q ≡ true
@@ -344,14 +314,74 @@ zeros-at zero b = refl
 zeros-at (suc n) zero = refl
 zeros-at (suc n) (suc b) = zeros-at n b
 
--- S13: from no marks, rows free page by page are apart
-pub free-apart : (pages : ℕ) (rs : List (List ℕ)) (x : Bool) → every (pageBelow pages) rs ≡ true → every placed rs ≡ true → x ≡ freePages rs pages 0 (replicate 4096 0) → x ≡ pairs apart rs
-free-apart pages rs x h g e =
-    e
-    ∙ pages-are rs pages 0 (replicate 4096 0) (length-replicate {A = ℕ} 4096 0) (λ b. omega (arith, zeros-at 4096 b)) g
-    ∙ same-test (upTo (λ (p : ℕ). pairs apart (keep (openOn p) rs)) pages 0) (pairs apart rs)
-    (λ f. pages-pairs pages rs h (λ p q. upTo-at (λ (p : ℕ). pairs apart (keep (openOn p) rs)) pages 0 p (omega arith) (omega arith) f))
-    (λ f. upTo-all (λ (p : ℕ). pairs apart (keep (openOn p) rs)) pages 0 (λ p q k. pairs-keep (openOn p) rs f))
+-- the walk over the rows: before it, past a row, at the end
+module _ (t : List ℕ) (m : ℕ) (heads after : List ℕ) (linked : Linked t m 0 heads after) where
+  page-chain : (p : ℕ) → p < 1024 → Chain t m after 0 (getD heads p 0) (keep (openOn p) (rows 19 m t 0))
+  page-chain p h = let n : m - 0 ≡ m = omega arith in rw n at (linked .chains p h)
+
+  -- a page that begins with row i is that row's
+  page-first : (i p : ℕ) → i < m → p < 1024 → getD heads p 0 ≡ i → pageOf (rowAt 19 t i) ≡ p
+  page-first i p h k e =
+      let c : Chain t m after 0 i (keep (openOn p) (rows 19 m t 0)) = rw e at (page-chain p k) in
+      eqb-true (pageOf (rowAt 19 t i)) p (and-both (eqb (pageOf (rowAt 19 t i)) p) (not (committed (rowAt 19 t i))) (chain-first (openOn p) h c (keep-every (openOn p) (rows 19 m t 0))) .0)
+
+  pass : (i : ℕ) (marks d : List ℕ) → length d ≡ 4096 → ((b : ℕ) → getD d b 0 ≤ (i + 1) * 64) → ((p : ℕ) → p < 1024 → getD heads p 0 ≡ i → pairs apart (keep (openOn p) (rows 19 m t 0)) ≡ true) → Passed t m i heads marks → Passed t m (i + 1) heads d
+  pass i marks d n f g w = record { wide = n; most = f; clear = λ p h k. pick p h k (eqb (getD heads p 0) i) refl }
+    where
+      pick : (p : ℕ) → p < 1024 → getD heads p 0 < i + 1 → (x : Bool) → eqb (getD heads p 0) i ≡ x → pairs apart (keep (openOn p) (rows 19 m t 0)) ≡ true
+      pick p h k true e = g p h (eqb-true (getD heads p 0) i e)
+      pick p h k false e =
+          let d : (getD heads p 0 ≡ i → ⊥) = eqb-false (getD heads p 0) i e in
+          w .clear p h (omega arith)
+
+  pass-still : (i : ℕ) (marks : List ℕ) → ((p : ℕ) → p < 1024 → getD heads p 0 ≡ i → pairs apart (keep (openOn p) (rows 19 m t 0)) ≡ true) → Passed t m i heads marks → (true ≡ true → Passed t m (i + 1) heads marks) × (true ≡ false → pairs apart (rows 19 m t 0) ≡ false)
+  pass-still i marks g w = (
+    λ y. pass i marks marks (w .wide) (λ b. omega (arith, w .most b)) g w,
+    λ y. let z : _≡_ {A = ℕ} 0 1 = cc in absurd (omega arith),
+  )
+
+  -- none follows it
+  pub pass-alone : (i next : ℕ) (marks : List ℕ) → next ≡ getD after i 0 → m ≤ next → Passed t m i heads marks → (true ≡ true → Passed t m (i + 1) heads marks) × (true ≡ false → pairs apart (rows 19 m t 0) ≡ false)
+  pass-alone i next marks e h w =
+      pass-still i marks (λ p k f. chain-one (rw e at h) (rw f at (page-chain p k))) w
+
+  -- its page begins with another
+  pub pass-later : (i q head : ℕ) (marks : List ℕ) → i < m → q ≡ pageOf (rowAt 19 t i) → head ≡ getD heads q 0 → (head ≡ i → ⊥) → Passed t m i heads marks → (true ≡ true → Passed t m (i + 1) heads marks) × (true ≡ false → pairs apart (rows 19 m t 0) ≡ false)
+  pass-later i q head marks h e f g w =
+      pass-still i marks (λ p k d. absurd (g (f ∙ ap (λ (x : ℕ). getD heads x 0) (e ∙ page-first i p h k d) ∙ d))) w
+
+  -- its page begins with it
+  pub first-chain : (i q head : ℕ) → q ≡ pageOf (rowAt 19 t i) → q < 1024 → head ≡ getD heads q 0 → head ≡ i → Chain t m after 0 i (keep (openOn (pageOf (rowAt 19 t i))) (rows 19 m t 0))
+  first-chain i q head e h f g = rw (sym f ∙ g, e) at (page-chain q h)
+
+  pub pass-first : (i : ℕ) (marks d : List ℕ) (x : Bool) → i < m → every placed (rows 19 m t 0) ≡ true → x ≡ freeRows (i * 64) marks (keep (openOn (pageOf (rowAt 19 t i))) (rows 19 m t 0)) → (x ≡ true → d ≡ withRows (i * 64) marks (keep (openOn (pageOf (rowAt 19 t i))) (rows 19 m t 0))) → Passed t m i heads marks → (x ≡ true → Passed t m (i + 1) heads d) × (x ≡ false → pairs apart (rows 19 m t 0) ≡ false)
+  pass-first i marks d x h k e f w =
+      let b = openOn (pageOf (rowAt 19 t i)) in
+      let l = keep b (rows 19 m t 0) in
+      let g : every placed l ≡ true = every-keep placed b (rows 19 m t 0) k in
+      let a : x ≡ pairs apart l = e ∙ rows-apart (pageOf (rowAt 19 t i)) (i * 64) l marks (w .wide) (w .most) (keep-every b (rows 19 m t 0)) g in (
+        λ y. rw (f y) (pass i marks (withRows (i * 64) marks l) (rows-length (i * 64) l marks ∙ w .wide) (rows-most ((i + 1) * 64) (i * 64) l marks (omega arith) g (λ c. omega (arith, w .most c))) (λ p u v. rw (page-first i p h u v) at (sym a ∙ y)) w),
+        λ y. clash b (pairs apart (rows 19 m t 0)) refl (sym a ∙ y),
+      )
+    where
+      clash : (b : List ℕ → Bool) (y : Bool) → pairs apart (rows 19 m t 0) ≡ y → pairs apart (keep b (rows 19 m t 0)) ≡ false → pairs apart (rows 19 m t 0) ≡ false
+      clash b true u v = absurd (not-both (pairs apart (keep b (rows 19 m t 0))) (pairs-keep b (rows 19 m t 0) u) v)
+      clash b false u v = u
+
+  pub pass-done : (i : ℕ) (marks : List ℕ) → m ≤ i → every (pageBelow 1024) (rows 19 m t 0) ≡ true → Passed t m i heads marks → true ≡ pairs apart (rows 19 m t 0)
+  unfolding pairs
+  pass-done i marks h k w = sym (pages-pairs 1024 (rows 19 m t 0) k (λ p q. pick p q (ltb (getD heads p 0) m) refl))
+    where
+      pick : (p : ℕ) → p < 1024 → (x : Bool) → ltb (getD heads p 0) m ≡ x → pairs apart (keep (openOn p) (rows 19 m t 0)) ≡ true
+      pick p q true e = let g = ltb-true (getD heads p 0) m e in w .clear p q (omega arith)
+      pick p q false e = rw (chain-none (ltb-false (getD heads p 0) m e) (page-chain p q))
+
+pub pass-none : (t : List ℕ) (m : ℕ) (heads : List ℕ) → Passed t m 0 heads (replicate 4096 0)
+pass-none t m heads = record {
+  wide = length-replicate {A = ℕ} 4096 0;
+  most = λ b. omega (arith, zeros-at 4096 b);
+  clear = λ p h k. absurd (omega arith);
+}
 
 -- S7 and S8 place each row
 length-some : (w : ℕ) → isLength w ≡ true → 1 ≤ w
@@ -381,11 +411,11 @@ place size pages last tables s (r ∷ l) h g =
     rw (place-one size pages last tables r s (u .0) (v .0)) (place size pages last tables s l (u .1) (v .1))
 
 -- so the clauses of the rows by themselves give it
-pub place-give : (tables : List ℕ) (size pages last : ℕ) (l : List (List ℕ)) (x z u : Bool) → size ≤ 4096 → x ≡ (every (wellFormed size pages) l && every (owned tables last) l && z && u) → not x ≡ false → every placed l ≡ true
-place-give tables size pages last l x z u s e h =
+pub place-give : (tables : List ℕ) (size pages last : ℕ) (l : List (List ℕ)) (x z u y : Bool) → size ≤ 4096 → x ≡ (every (wellFormed size pages) l && every (owned tables last) l && z && u && y) → not x ≡ false → every placed l ≡ true
+place-give tables size pages last l x z u y s e h =
     let f = every (wellFormed size pages) l in
     let o = every (owned tables last) l in
-    let b = and-both f o (and-both (f && o) z (and-both (f && o && z) u (passed e h) .0) .0) in
+    let b = and-both f o (and-both (f && o) z (and-both (f && o && z) u (and-both (f && o && z && u) y (passed e h) .0) .0) .0) in
     place size pages last tables s l (b .0) (b .1)
 
 -- the loop over a row's bytes: those from k on are as they were, and decide as all do
@@ -431,25 +461,3 @@ unfolding freeRow withRow
 row-taken base marks d r x a w y e f g h k =
     let n : a + w - a ≡ w = omega arith in
     (rw (← e, ← f, ← g) (rw n at h), λ t. rw (← e, ← f, ← g) (rw n at (k t)))
-
--- the loop over the pages
-pub each-none : (rs : List (List ℕ)) (pages : ℕ) (a : List ℕ) → freePages rs (pages - 0) 0 a ≡ freePages rs pages 0 a
-each-none rs pages a = let n : pages - 0 ≡ pages = omega arith in rw n
-
-pub each-fail : (rs : List (List ℕ)) (pages p : ℕ) (a : List ℕ) (x z : Bool) → p < pages → not x ≡ true → x ≡ freeRows (p * 64) a (crowd (keep (openOn p) rs)) → freePages rs (pages - p) p a ≡ z → false ≡ z
-unfolding freePages
-each-fail rs pages p a x z h n e inv =
-    let k : pages - p ≡ suc (pages - (p + 1)) = omega arith in
-    let f = failed e n in
-    rw (k, f) at inv
-
-pub each-turn : (rs : List (List ℕ)) (pages p : ℕ) (a b : List ℕ) (x z : Bool) → p < pages → not x ≡ false → x ≡ freeRows (p * 64) a (crowd (keep (openOn p) rs)) → (x ≡ true → b ≡ withRows (p * 64) a (crowd (keep (openOn p) rs))) → freePages rs (pages - p) p a ≡ z → freePages rs (pages - (p + 1)) (p + 1) b ≡ z
-unfolding freePages
-each-turn rs pages p a b x z h n e g inv =
-    let k : pages - p ≡ suc (pages - (p + 1)) = omega arith in
-    let f = passed e n in
-    rw (g (not-false x n)) (rw (k, f) at inv)
-
-pub each-done : (rs : List (List ℕ)) (pages p : ℕ) (a : List ℕ) (z : Bool) → pages ≤ p → freePages rs (pages - p) p a ≡ z → true ≡ z
-unfolding freePages
-each-done rs pages p a z h inv = let k : pages - p ≡ 0 = omega arith in rw k at inv

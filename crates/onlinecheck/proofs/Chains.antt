@@ -3,15 +3,16 @@ use Prim.Native.Nat.{ℕ, suc, _+_, _-_, _≤_, _<_}
 use native.Mathlib.Omega.{arith}
 use mathlib.Core.Path.{_≡_, refl, sym, ap, _∙_}
 use mathlib.Core.Bool.{Bool, true, false, cond, not, _&&_}
-use mathlib.Core.List.{List, [], _∷_}
+use mathlib.Core.List.{List, []}
 use lib.ListN.{length, getD, set, replicate, length-set, length-replicate, getD-replicate}
 use lib.Seq.{getD-set-same, getD-set-other}
 use lib.Dec.{eqb}
 use borrow.Author.Tests.{eqb-true, eqb-false, ne-eqb, not-false}
 use Rattle.record.specs.Rows.{rowAt, rows, keep, consIf}
 use Rattle.record.specs.Record.{pageOf, ownerOf, committed}
-use Rattle.onlinecheck.specs.Bytes.{openOn, Chain, ends, goes, Linked, headsWith, afterWith, freeRow, withRow, freeRows, withRows, crowd}
-use Rattle.onlinecheck.proofs.Rows.{passed, failed}
+use Rattle.rules.specs.Sound.{every, pairs, apart}
+use Rattle.onlinecheck.specs.Bytes.{openOn, Chain, ends, goes, Linked, headsWith, afterWith, freeRow, withRow, freeRows, withRows}
+use Rattle.onlinecheck.proofs.Rows.{and-both, passed, failed}
 
 chain-low : {t : List ℕ} {m : ℕ} {a : List ℕ} {low j : ℕ} {l : List (List ℕ)} (down : ℕ) → down ≤ low → Chain t m a low j l → Chain t m a down j l
 chain-low down h (ends e) = ends e
@@ -76,40 +77,20 @@ pub link-one : (heads after r : List ℕ) (i x q : ℕ) → x ≡ ownerOf r → 
 unfolding headsWith afterWith
 link-one heads after r i x q e h g = (rw (← e, ne-eqb x 0 h, g), rw (← e, ne-eqb x 0 h, g))
 
--- the first two indices of a chain tell whether it has two rows
-chain-none : {t : List ℕ} {m : ℕ} {a : List ℕ} {low j : ℕ} {l : List (List ℕ)} → m ≤ j → Chain t m a low j l → l ≡ []
+-- the first two indices of a chain: none, one alone, or one of the chain's page
+pub chain-none : {t : List ℕ} {m : ℕ} {a : List ℕ} {low j : ℕ} {l : List (List ℕ)} → m ≤ j → Chain t m a low j l → l ≡ []
 chain-none h (ends e) = refl
 chain-none h (goes g e c) = absurd (omega arith)
 
-chain-some : {t : List ℕ} {m : ℕ} {a : List ℕ} {low j : ℕ} {l : List (List ℕ)} (r : List ℕ) → j < m → Chain t m a low j l → crowd (r ∷ l) ≡ r ∷ l
-chain-some r h (ends e) = absurd (omega arith)
-chain-some r h (goes g e c) = refl
-
-chain-one : {t : List ℕ} {m : ℕ} {a : List ℕ} {low j : ℕ} {l : List (List ℕ)} → m ≤ getD a j 0 → Chain t m a low j l → crowd l ≡ []
+pub chain-one : {t : List ℕ} {m : ℕ} {a : List ℕ} {low j : ℕ} {l : List (List ℕ)} → m ≤ getD a j 0 → Chain t m a low j l → pairs apart l ≡ true
+unfolding every pairs
 chain-one h (ends e) = refl
 chain-one h (goes g e c) = rw (chain-none h c)
 
-chain-more : {t : List ℕ} {m : ℕ} {a : List ℕ} {low j : ℕ} {l : List (List ℕ)} → j < m → getD a j 0 < m → Chain t m a low j l → crowd l ≡ l
-chain-more h k (ends e) = absurd (omega arith)
-chain-more {t} {j = j} h k (goes g e c) = chain-some (rowAt 19 t j) k c
-
--- a page, by the first two indices of its chain
-module _ (t : List ℕ) (m p base : ℕ) (heads after a : List ℕ) (j : ℕ) (within : p < 1024) (first : j ≡ getD heads p 0) (linked : Linked t m 0 heads after) where
-  page-chain : Chain t m after 0 j (keep (openOn p) (rows 19 m t 0))
-  page-chain = let n : m - 0 ≡ m = omega arith in rw first (rw n at (linked .chains p within))
-
-  none-left : crowd (keep (openOn p) (rows 19 m t 0)) ≡ [] → (true ≡ freeRows base a (crowd (keep (openOn p) (rows 19 m t 0)))) × (true ≡ true → a ≡ withRows base a (crowd (keep (openOn p) (rows 19 m t 0))))
-  unfolding freeRows withRows
-  none-left e = (rw e, λ k. rw e)
-
-  pub page-none : m ≤ j → (true ≡ freeRows base a (crowd (keep (openOn p) (rows 19 m t 0)))) × (true ≡ true → a ≡ withRows base a (crowd (keep (openOn p) (rows 19 m t 0))))
-  page-none h = let e = chain-none h page-chain in none-left (rw e)
-
-  pub page-one : (k : ℕ) → k ≡ getD after j 0 → m ≤ k → (true ≡ freeRows base a (crowd (keep (openOn p) (rows 19 m t 0)))) × (true ≡ true → a ≡ withRows base a (crowd (keep (openOn p) (rows 19 m t 0))))
-  page-one k o h = none-left (chain-one (rw o at h) page-chain)
-
-  pub page-more : (k : ℕ) (x : Bool) (b : List ℕ) → k ≡ getD after j 0 → j < m → k < m → x ≡ freeRows base a (keep (openOn p) (rows 19 m t 0)) → (x ≡ true → b ≡ withRows base a (keep (openOn p) (rows 19 m t 0))) → (x ≡ freeRows base a (crowd (keep (openOn p) (rows 19 m t 0)))) × (x ≡ true → b ≡ withRows base a (crowd (keep (openOn p) (rows 19 m t 0))))
-  page-more k x b o h g u v = let e = chain-more h (rw o at g) page-chain in (rw e u, λ z. rw e (v z))
+pub chain-first : {t : List ℕ} {m : ℕ} {a : List ℕ} {low j : ℕ} {l : List (List ℕ)} (b : List ℕ → Bool) → j < m → Chain t m a low j l → every b l ≡ true → b (rowAt 19 t j) ≡ true
+unfolding every
+chain-first b h (ends e) k = absurd (omega arith)
+chain-first {t} {j = j} b h (goes {l = l} g e c) k = and-both (b (rowAt 19 t j)) (every b l) k .0
 
 -- along a page's chain: from the rows that are left come the answer z and the marks e
 pub record Walk (t : List ℕ) (m : ℕ) (after : List ℕ) (base j : ℕ) (a : List ℕ) (z : Bool) (e : List ℕ) : Type 0 where
@@ -119,8 +100,8 @@ pub record Walk (t : List ℕ) (m : ℕ) (after : List ℕ) (base j : ℕ) (a : 
   pub free : freeRows base a left ≡ z
   pub marked : withRows base a left ≡ e
 
-pub walk-none : (t : List ℕ) (m p base j : ℕ) (heads after a : List ℕ) → p < 1024 → j ≡ getD heads p 0 → Linked t m 0 heads after → Walk t m after base j a (freeRows base a (keep (openOn p) (rows 19 m t 0))) (withRows base a (keep (openOn p) (rows 19 m t 0)))
-walk-none t m p base j heads after a h e l = record { low = 0; left = keep (openOn p) (rows 19 m t 0); chain = page-chain t m p base heads after a j h e l; free = refl; marked = refl }
+pub walk-none : (t : List ℕ) (m : ℕ) (after : List ℕ) (base j : ℕ) (a : List ℕ) (l : List (List ℕ)) → Chain t m after 0 j l → Walk t m after base j a (freeRows base a l) (withRows base a l)
+walk-none t m after base j a l c = record { low = 0; left = l; chain = c; free = refl; marked = refl }
 
 pub walk-turn : (t : List ℕ) (m : ℕ) (after : List ℕ) (base j i : ℕ) (a b : List ℕ) (x z : Bool) (e : List ℕ) → j < m → not x ≡ false → x ≡ freeRow base a (rowAt 19 t j) → (x ≡ true → b ≡ withRow base a (rowAt 19 t j)) → i ≡ getD after j 0 → Walk t m after base j a z e → Walk t m after base i b z e
 unfolding freeRows withRows

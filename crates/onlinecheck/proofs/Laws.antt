@@ -3,20 +3,20 @@ use Prim.Native.Nat.{ℕ, zero, suc, _+_, _*_, _-_, _≤_, _<_}
 use native.Mathlib.Omega.{arith}
 use native.Mathlib.Numerals.{add-one}
 use mathlib.Core.Path.{_≡_, refl, sym, ap, _∙_}
-use mathlib.Core.Bool.{Bool, true, false, cond, not, _&&_, _||_, and-true, and-assoc, or-true}
+use mathlib.Core.Bool.{Bool, true, false, cond, not, _&&_, _||_, and-true, and-false, and-assoc, or-true}
 use mathlib.Core.List.{List, [], _∷_}
 use lib.ListN.{length, getD, take, drop, drop-of-length-le}
 use lib.Seq.{drop-cons, take-take}
 use lib.Dec.{eqb, leb, ltb}
-use borrow.Author.Tests.{eqb-true, eqb-false, le-leb, lt-leb, eq-eqb, ne-eqb}
+use borrow.Author.Tests.{leb-true, eqb-true, eqb-false, le-leb, lt-leb, eq-eqb, ne-eqb}
 use Rattle.word.specs.Word.{num}
 use Rattle.record.specs.Part.{part}
 use Rattle.record.specs.Rows.{rowAt, rows}
-use Rattle.record.specs.Record.{pageOf, ownerOf, numberOf, committed, bodyOf, wellFormed}
+use Rattle.record.specs.Record.{pageOf, offsetOf, lengthOf, ownerOf, numberOf, committed, bodyOf, wellFormed, shareByte}
 use Rattle.rules.specs.Lent.{Lent, sizeOf, pagesOf, framesOf, lastOf, loggedOf, countOf}
 use Rattle.rules.specs.Sound.{every, pairs, between, zeros, same, apart, owning, s7-online-records, s8-owners, s14-online-zero, s10-in-log, s11-above-stamp, s9-number-once, s12-dirty, s13-apart}
-use Rattle.onlinecheck.specs.Online.{owned, inLog, aboveStamp, otherNumber, entryAgrees, pageBelow, numberUpTo, onlineTest}
-use Rattle.onlinecheck.proofs.Rows.{and-both, every-imp}
+use Rattle.onlinecheck.specs.Online.{owned, inLog, aboveStamp, rowTest, otherNumber, entryAgrees, pageBelow, onlineTest}
+use Rattle.onlinecheck.proofs.Rows.{and-both, every-both, every-imp}
 
 -- the test is soundness's clauses about the online table
 pub online-is : (s : Lent) → onlineTest (s .lost .online) (countOf s) (s .durable .log) (loggedOf s) (s .durable .marks) (s .lost .tables) (sizeOf s) (pagesOf s) (framesOf s) (lastOf s) ≡ (s7-online-records s && s8-owners s && s14-online-zero s && s10-in-log s && s11-above-stamp s && s9-number-once s && s12-dirty s && s13-apart s)
@@ -24,12 +24,12 @@ unfolding owned owning inLog aboveStamp otherNumber entryAgrees onlineTest s7-on
 online-is s = refl
 
 -- S7: what later clauses take from it
-pub formed-page : (size pages : ℕ) (l : List (List ℕ)) → every (wellFormed size pages) l ≡ true → every (pageBelow pages) l ≡ true
+pub formed-below : (size pages : ℕ) (r : List ℕ) → wellFormed size pages r ≡ true → pageBelow pages r ≡ true
 unfolding wellFormed
-formed-page size pages l h = every-imp (wellFormed size pages) (pageBelow pages) one l h
-  where
-    one : (r : List ℕ) → wellFormed size pages r ≡ true → ltb (pageOf r) pages ≡ true
-    one r k = and-both _ _ (and-both _ _ (and-both _ _ (and-both _ _ k .0) .0) .0) .0
+formed-below size pages r k = and-both _ _ (and-both _ _ (and-both _ _ (and-both _ _ k .0) .0) .0) .0
+
+pub formed-page : (size pages : ℕ) (l : List (List ℕ)) → every (wellFormed size pages) l ≡ true → every (pageBelow pages) l ≡ true
+formed-page size pages l h = every-imp (wellFormed size pages) (pageBelow pages) (formed-below size pages) l h
 
 -- S8
 pub owned-committed : (tables : List ℕ) (last : ℕ) (r : List ℕ) (x k : ℕ) → x ≡ ownerOf r → k ≡ numberOf r → x ≡ 0 → (leb 1 k && leb k last) ≡ owned tables last r
@@ -46,18 +46,15 @@ pub owned-live : (tables : List ℕ) (last : ℕ) (r : List ℕ) (x k at : ℕ) 
 unfolding owned
 owned-live tables last r x k at a b n h e = rw (← a, ← b, ne-eqb x 0 n, le-leb x 32 h, e)
 
-pub owned-number : (tables : List ℕ) (last : ℕ) (l : List (List ℕ)) → every (owned tables last) l ≡ true → every (numberUpTo last) l ≡ true
+pub owned-number : (tables : List ℕ) (last : ℕ) (r : List ℕ) → owned tables last r ≡ true → numberOf r ≤ last
 unfolding owned
-owned-number tables last l h = every-imp (owned tables last) (numberUpTo last) one l h
+owned-number tables last r h = pick (committed r) (numberOf r) (leb (ownerOf r) 32) (eqb (getD tables (2 + ownerOf r) 0) 1) h
   where
-    pick : (x : Bool) (k : ℕ) (y z : Bool) → cond x (between 1 k last) (y && eqb k 0 && z) ≡ true → leb k last ≡ true
-    pick true k y z h = and-both (leb 1 k) (leb k last) h .1
+    pick : (x : Bool) (k : ℕ) (y z : Bool) → cond x (between 1 k last) (y && eqb k 0 && z) ≡ true → k ≤ last
+    pick true k y z h = leb-true k last (and-both (leb 1 k) (leb k last) h .1)
     pick false k y z h =
         let e : k ≡ 0 = eqb-true k 0 (and-both y (eqb k 0) (and-both (y && eqb k 0) z h .0) .1) in
-        le-leb k last (omega arith)
-
-    one : (r : List ℕ) → owned tables last r ≡ true → leb (numberOf r) last ≡ true
-    one r k = pick (committed r) (numberOf r) (leb (ownerOf r) 32) (eqb (getD tables (2 + ownerOf r) 0) 1) k
+        omega arith
 
 -- S14
 pub zeros-turn : (t : List ℕ) (i : ℕ) (ok z : Bool) → i < length t → (ok && zeros (drop i t)) ≡ z → (ok && eqb (getD t i 0) 0 && zeros (drop (i + 1) t)) ≡ z
@@ -148,7 +145,38 @@ pub above-row : (marks r : List ℕ) (x p k stamp : ℕ) → x ≡ ownerOf r →
 unfolding aboveStamp
 above-row marks r x p k stamp a b d h e = rw (← a, ← b, ← d, h, ← e)
 
+-- S7, S8, S10 and S11 row by row, and the bytes past the rows, are these clauses one by one
+pub rows-each : (tables log marks : List ℕ) (size pages last first : ℕ) (l : List (List ℕ)) (x z : Bool) → x ≡ every (rowTest tables log marks size pages last first) l → (x && z) ≡ (every (wellFormed size pages) l && every (owned tables last) l && z && every (inLog log first) l && every (aboveStamp marks) l)
+rows-each tables log marks size pages last first l x z e =
+    let f = wellFormed size pages in
+    let o = owned tables last in
+    let g = inLog log first in
+    let a = aboveStamp marks in
+    ap (λ (y : Bool). y && z) (e ∙ every-both (λ r. f r && o r && g r) a l ∙ ap (λ (y : Bool). y && every a l) (every-both (λ r. f r && o r) g l ∙ ap (λ (y : Bool). y && every g l) (every-both f o l)))
+    ∙ mid (every f l && every o l) (every g l) (every a l) z
+  where
+    mid : (x y w z : Bool) → (x && y && w && z) ≡ (x && z && y && w)
+    mid true y w true = and-true (y && w)
+    mid true y w false = and-false (y && w)
+    mid false y w z = refl
+
 -- S13
+pub share-other : (r q : List ℕ) (a b : ℕ) → a ≡ pageOf r → b ≡ pageOf q → (a ≡ b → ⊥) → false ≡ shareByte r q
+unfolding shareByte
+share-other r q a b e f h = rw (← e, ← f, ne-eqb a b h)
+
+pub share-same : (r q : List ℕ) (a b o k p l : ℕ) → a ≡ pageOf r → b ≡ pageOf q → a ≡ b → o ≡ offsetOf r → k ≡ lengthOf r → p ≡ offsetOf q → l ≡ lengthOf q → (ltb o (p + l) && ltb p (o + k)) ≡ shareByte r q
+unfolding shareByte
+share-same r q a b o k p l e f h eo ek ep el = rw (← e, ← f, eq-eqb a b h, eo, ek, ep, el)
+
+pub apart-free : (r q : List ℕ) (x y : ℕ) → x ≡ ownerOf r → y ≡ ownerOf q → (eqb x 0 || eqb y 0 || eqb x y) ≡ true → true ≡ apart r q
+unfolding apart
+apart-free r q x y e f h = rw (← e, ← f, h)
+
+pub apart-row : (r q : List ℕ) (x y : ℕ) (b : Bool) → x ≡ ownerOf r → y ≡ ownerOf q → (eqb x 0 || eqb y 0 || eqb x y) ≡ false → b ≡ shareByte r q → not b ≡ apart r q
+unfolding apart
+apart-row r q x y b e f h g = rw (← e, ← f, h, g)
+
 -- a committed row is apart from every other
 pub apart-all : (r : List ℕ) (x : ℕ) → x ≡ ownerOf r → x ≡ 0 → (l : List (List ℕ)) → true ≡ every (apart r) l
 unfolding every apart

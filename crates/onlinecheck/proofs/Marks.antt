@@ -16,7 +16,7 @@ use Rattle.rules.specs.Lent.{isDirty}
 use Rattle.rules.specs.Sound.{every, pairs, upTo, between, same, agree}
 use Rattle.onlinecheck.specs.Online.{owned, inLog, otherNumber, entryAgrees, pageBelow}
 use Rattle.onlinecheck.specs.Marks.{markPages, entryMarked, slotted, free, withNumber, allFree}
-use Rattle.onlinecheck.proofs.Rows.{and-both, every-imp, passed, failed}
+use Rattle.onlinecheck.proofs.Rows.{and-both, and-swap, every-imp, passed, failed}
 use Rattle.onlinecheck.proofs.Laws.{formed-page}
 
 -- S12: a page is marked if it was, or if a row is of it
@@ -133,12 +133,7 @@ free-each first a r n f [] h = refl
 free-each first a r n f (q ∷ l) h =
     let g = and-both (slotted first q) (every (slotted first) l) h in
     rw (free-one first a (numberOf r) (numberOf q) n f (g .0), free-each first a r n f l (g .1))
-    (swap (free first a q) (otherNumber r q) (every (free first a) l) (every (otherNumber r) l))
-  where
-    swap : (x y u v : Bool) → (x && y && (u && v)) ≡ (x && u && (y && v))
-    swap true true u v = refl
-    swap true false u v = sym (and-false u)
-    swap false y u v = refl
+    (and-swap (free first a q) (otherNumber r q) (every (free first a) l) (every (otherNumber r) l))
 
 -- each row free when its turn comes: free of the marks at the start, and no number twice
 free-pairs : (first : ℕ) (l : List (List ℕ)) (a : List ℕ) → length a ≡ 2048 → every (slotted first) l ≡ true → allFree first l a ≡ (every (free first a) l && pairs otherNumber l)
@@ -208,10 +203,11 @@ unfolding free withNumber
 take-one first a r k e h = (rw (← e, ne-eqb k 0 h), rw (← e, ne-eqb k 0 h))
 
 -- what the clauses of the rows by themselves give to the others
-pub rows-give : (tables log : List ℕ) (size pages last n : ℕ) (l : List (List ℕ)) (x z : Bool) → n ≤ last → n ≤ 2048 → x ≡ (every (wellFormed size pages) l && every (owned tables last) l && z && every (inLog log (last - n + 1)) l) → not x ≡ false → (every (pageBelow pages) l ≡ true) × (every (slotted (last - n + 1)) l ≡ true)
-rows-give tables log size pages last n l x z p q e h =
+pub rows-give : (tables log : List ℕ) (size pages last n : ℕ) (l : List (List ℕ)) (x z y : Bool) → n ≤ last → n ≤ 2048 → x ≡ (every (wellFormed size pages) l && every (owned tables last) l && z && every (inLog log (last - n + 1)) l && y) → not x ≡ false → (every (pageBelow pages) l ≡ true) × (every (slotted (last - n + 1)) l ≡ true)
+rows-give tables log size pages last n l x z y p q e h =
     let f = every (wellFormed size pages) l in
     let o = every (owned tables last) l in
-    let a = and-both (f && o && z) (every (inLog log (last - n + 1)) l) (passed e h) in
+    let g = every (inLog log (last - n + 1)) l in
+    let a = and-both (f && o && z) g (and-both (f && o && z && g) y (passed e h) .0) in
     let b = and-both f o (and-both (f && o) z (a .0) .0) in
     (formed-page size pages l (b .0), slots tables log (last - n + 1) last n refl p q l (b .1) (a .1))

@@ -2,11 +2,11 @@
 use Prim.Native.Nat.{ℕ, zero, suc, _+_, _-_, _≤_, _<_}
 use native.Mathlib.Omega.{arith}
 use mathlib.Core.Path.{_≡_, refl, sym, _∙_}
-use mathlib.Core.Bool.{Bool, true, false, not, _&&_, and-true, and-assoc}
+use mathlib.Core.Bool.{Bool, true, false, not, _&&_, and-true, and-false, and-assoc}
 use mathlib.Core.List.{List, [], _∷_}
 use borrow.Author.Tests.{not-true, not-false}
 use Rattle.record.specs.Rows.{rowAt, rows}
-use Rattle.rules.specs.Sound.{every, upTo}
+use Rattle.rules.specs.Sound.{every, pairs, upTo}
 
 pub and-both : (a b : Bool) → (a && b) ≡ true → (a ≡ true) × (b ≡ true)
 and-both true b h = (refl, h)
@@ -18,6 +18,17 @@ passed {x} {a} e h = sym e ∙ not-false x h
 
 pub failed : {x a : Bool} → x ≡ a → not x ≡ true → a ≡ false
 failed {x} {a} e h = sym e ∙ not-true x h
+
+pub and-swap : (x y u v : Bool) → (x && y && (u && v)) ≡ (x && u && (y && v))
+and-swap true true u v = refl
+and-swap true false u v = sym (and-false u)
+and-swap false y u v = refl
+
+-- two tests in one
+pub every-both : (b d : List ℕ → Bool) (l : List (List ℕ)) → every (λ r. b r && d r) l ≡ (every b l && every d l)
+unfolding every
+every-both b d [] = refl
+every-both b d (r ∷ l) = rw (every-both b d l) (and-swap (b r) (d r) (every b l) (every d l))
 
 -- a test that each passes implies another
 pub every-imp : (b d : List ℕ → Bool) → ((r : List ℕ) → b r ≡ true → d r ≡ true) → (l : List (List ℕ)) → every b l ≡ true → every d l ≡ true
@@ -64,6 +75,28 @@ every-turn b w m t i x z p h e inv =
 pub every-done : (b : List ℕ → Bool) (w m : ℕ) (t : List ℕ) (i : ℕ) (z : Bool) → m ≤ i → every b (rows w (m - i) t i) ≡ z → true ≡ z
 unfolding every rows
 every-done b w m t i z p inv = let n : m - i ≡ 0 = omega arith in rw n at inv
+
+-- the same for each two rows, where x says that a row passes with all later ones
+pub pairs-none : (b : List ℕ → List ℕ → Bool) (w m : ℕ) (t : List ℕ) → pairs b (rows w (m - 0) t 0) ≡ pairs b (rows w m t 0)
+pairs-none b w m t = let n : m - 0 ≡ m = omega arith in rw n
+
+pub pairs-fail : (b : List ℕ → List ℕ → Bool) (w m : ℕ) (t : List ℕ) (i : ℕ) (x z : Bool) → i < m → not x ≡ true → x ≡ every (b (rowAt w t i)) (rows w (m - (i + 1)) t (i + 1)) → pairs b (rows w (m - i) t i) ≡ z → false ≡ z
+unfolding pairs rows
+pairs-fail b w m t i x z p h e inv =
+    let n : m - i ≡ suc (m - (i + 1)) = omega arith in
+    let f = failed e h in
+    rw (n, f) at inv
+
+pub pairs-turn : (b : List ℕ → List ℕ → Bool) (w m : ℕ) (t : List ℕ) (i : ℕ) (x z : Bool) → i < m → not x ≡ false → x ≡ every (b (rowAt w t i)) (rows w (m - (i + 1)) t (i + 1)) → pairs b (rows w (m - i) t i) ≡ z → pairs b (rows w (m - (i + 1)) t (i + 1)) ≡ z
+unfolding pairs rows
+pairs-turn b w m t i x z p h e inv =
+    let n : m - i ≡ suc (m - (i + 1)) = omega arith in
+    let f = passed e h in
+    rw (n, f) at inv
+
+pub pairs-done : (b : List ℕ → List ℕ → Bool) (w m : ℕ) (t : List ℕ) (i : ℕ) (z : Bool) → m ≤ i → pairs b (rows w (m - i) t i) ≡ z → true ≡ z
+unfolding pairs rows
+pairs-done b w m t i z p inv = let n : m - i ≡ 0 = omega arith in rw n at inv
 
 -- the same for numbers
 pub upTo-none : (b : ℕ → Bool) (m : ℕ) → upTo b (m - 0) 0 ≡ upTo b m 0

@@ -9,7 +9,7 @@ use lib.ListN.{length, getD, set}
 use lib.Dec.{eqb, leb, ltb}
 use Rattle.record.specs.Rows.{rowAt, rows, keep}
 use Rattle.record.specs.Record.{pageOf, offsetOf, lengthOf, ownerOf, committed}
-use Rattle.rules.specs.Sound.{upTo}
+use Rattle.rules.specs.Sound.{pairs, upTo, apart}
 
 -- an uncommitted row of page p
 abbrev pub openOn : ℕ → List ℕ → Bool
@@ -62,13 +62,8 @@ unfoldable pub withRows : ℕ → List ℕ → List (List ℕ) → List ℕ
 withRows base a [] = a
 withRows base a (r ∷ l) = withRows base (withRow base a r) l
 
--- the rows of a page that has two or more: one alone clashes with none
-abbrev pub crowd : List (List ℕ) → List (List ℕ)
-crowd [] = []
-crowd (r ∷ []) = []
-crowd (r ∷ (q ∷ l)) = r ∷ (q ∷ l)
-
--- so on each of n pages from p on
-unfoldable pub freePages : List (List ℕ) → ℕ → ℕ → List ℕ → Bool
-freePages rs zero p a = true
-freePages rs (suc n) p a = freeRows (p * 64) a (crowd (keep (openOn p) rs)) && freePages rs n (p + 1) (withRows (p * 64) a (crowd (keep (openOn p) rs)))
+-- the walk over the rows, at row i: what earlier ones marked is at most 64 i, and each page that begins before has its rows apart
+pub record Passed (t : List ℕ) (m i : ℕ) (heads marks : List ℕ) : Type 0 where
+  pub wide : length marks ≡ 4096
+  pub most : (b : ℕ) → getD marks b 0 ≤ i * 64
+  pub clear : (p : ℕ) → p < 1024 → getD heads p 0 < i → pairs apart (keep (openOn p) (rows 19 m t 0)) ≡ true

@@ -31,12 +31,13 @@ otherNumber a b = eqb (numberOf a) 0 || not (eqb (numberOf a) (numberOf b))
 unfoldable pub entryAgrees : List ℕ → List (List ℕ) → ℕ → Bool
 entryAgrees entries rs p = agree (isDirty (getD entries p 0)) (any (onPage p) rs)
 
--- what S7 and S8 say of each row, as far as a later clause leans on it
+-- S7, S8, S10 and S11 of a row
+abbrev pub rowTest : List ℕ → List ℕ → List ℕ → ℕ → ℕ → ℕ → ℕ → List ℕ → Bool
+rowTest tables log marks size pages last first r = wellFormed size pages r && owned tables last r && inLog log first r && aboveStamp marks r
+
+-- what S7 says of each row, as far as a later clause leans on it
 abbrev pub pageBelow : ℕ → List ℕ → Bool
 pageBelow pages r = ltb (pageOf r) pages
-
-abbrev pub numberUpTo : ℕ → List ℕ → Bool
-numberUpTo last r = leb (numberOf r) last
 
 -- S7, S8, S14, S10, S11, S9, S12, S13
 unfoldable pub onlineTest : List ℕ → ℕ → List ℕ → ℕ → List ℕ → List ℕ → ℕ → ℕ → ℕ → ℕ → Bool

@@ -1,15 +1,16 @@
 // S13: uncommitted rows of different owners share no byte. By S7 and S8 a row's page, bytes and owner are in range.
-// The uncommitted rows are chained by page. Then, page by page, each marks its bytes with the page and its owner:
-// a byte that another owner marked on this page is shared. Marks of earlier pages are below this page's, and stay.
+// The uncommitted rows are chained by page. Then, page by page, each marks its bytes with the page's first row and its owner:
+// a byte that another owner marked on this page is shared. Marks of pages that begin earlier are below this page's, and stay.
 ghost use mathlib.Core.Path.{_≡_};
-ghost use mathlib.Core.Bool.{true};
+ghost use mathlib.Core.Bool.{true, false};
 ghost use Prim.Native.Nat.{_+_, _*_, _-_, _≤_, _<_};
 ghost use lib.ListN.{length};
 ghost use Rattle.record.specs.Rows.{rowAt, rows, keep};
 ghost use Rattle.record.specs.Record.{pageOf};
 ghost use Rattle.rules.specs.Sound.{every, pairs, upTo, apart};
 ghost use Rattle.onlinecheck.specs.Online.{pageBelow};
-ghost use Rattle.onlinecheck.specs.Bytes.{openOn, placed, Linked, headsWith, afterWith, freeByte, markBytes, freeRow, withRow, freeRows, withRows, crowd, freePages};
+ghost use Rattle.onlinecheck.specs.Bytes.{openOn, placed, Chain, Linked, Passed, headsWith, afterWith, freeByte, markBytes, freeRow, withRow, freeRows, withRows};
+use super::few;
 
 // Row i goes in front of its page's chain, unless it is committed.
 fn link_row(t: &[u8], i: usize, heads: &mut [u16; 1024], after: &mut [u16; 512])
@@ -73,20 +74,13 @@ fn index(v: u16) -> usize
     v as usize
 }
 
-// The uncommitted rows of page p, by its chain.
-fn chain_apart(
-    t: &[u8],
-    m: usize,
-    p: usize,
-    heads: &[u16; 1024],
-    after: &[u16; 512],
-    marks: &mut [u16; 4096],
-) -> bool
-    requires { ⌜ (m * 19 ≤ length (now t)) × (m ≤ 512) × (p < 1024) × (every placed (rows 19 m (now t) 0) ≡ true) × Linked (now t) m 0 (now heads) (now after) ⌝ }
-    ensures { λ r. ⌜ (r ≡ freeRows (p * 64) (now (marks .entry)) (keep (openOn p) (rows 19 m (now (t .entry)) 0))) × (r ≡ true → now (marks .exit) ≡ withRows (p * 64) (now (marks .entry)) (keep (openOn p) (rows 19 m (now (t .entry)) 0))) ⌝ }
+// The uncommitted rows of row i's page, whose chain begins with row i.
+fn chain_apart(t: &[u8], m: usize, i: usize, after: &[u16; 512], marks: &mut [u16; 4096]) -> bool
+    requires { ⌜ (m * 19 ≤ length (now t)) × (m ≤ 512) × (i < m) × (every placed (rows 19 m (now t) 0) ≡ true) × Chain (now t) m (now after) 0 i (keep (openOn (pageOf (rowAt 19 (now t) i))) (rows 19 m (now t) 0)) ⌝ }
+    ensures { λ r. ⌜ (r ≡ freeRows (i * 64) (now (marks .entry)) (keep (openOn (pageOf (rowAt 19 (now (t .entry)) i))) (rows 19 m (now (t .entry)) 0))) × (r ≡ true → now (marks .exit) ≡ withRows (i * 64) (now (marks .entry)) (keep (openOn (pageOf (rowAt 19 (now (t .entry)) i))) (rows 19 m (now (t .entry)) 0))) ⌝ }
 {
-    let base = (p * 64) as u16;
-    let mut j = index(heads[p]);
+    let base = (i * 64) as u16;
+    let mut j = i;
     while j < m {
         if !take_row(t, j, base, marks) {
             return false;
@@ -97,59 +91,61 @@ fn chain_apart(
 }
 
 // A row that is alone on its page clashes with none, and its bytes need no mark: other pages look at none of this page.
-fn page_apart(
+// So a page is looked at where its first row is passed, if another follows.
+fn row_apart(
     t: &[u8],
     m: usize,
-    p: usize,
+    i: usize,
     heads: &[u16; 1024],
     after: &[u16; 512],
     marks: &mut [u16; 4096],
 ) -> bool
-    requires { ⌜ (m * 19 ≤ length (now t)) × (m ≤ 512) × (p < 1024) × (every placed (rows 19 m (now t) 0) ≡ true) × Linked (now t) m 0 (now heads) (now after) ⌝ }
-    ensures { λ r. ⌜ (r ≡ freeRows (p * 64) (now (marks .entry)) (crowd (keep (openOn p) (rows 19 m (now (t .entry)) 0)))) × (r ≡ true → now (marks .exit) ≡ withRows (p * 64) (now (marks .entry)) (crowd (keep (openOn p) (rows 19 m (now (t .entry)) 0)))) ⌝ }
+    requires { ⌜ (m * 19 ≤ length (now t)) × (m ≤ 512) × (i < m) × (every (pageBelow 1024) (rows 19 m (now t) 0) ≡ true) × (every placed (rows 19 m (now t) 0) ≡ true) × Linked (now t) m 0 (now heads) (now after) × Passed (now t) m i (now heads) (now marks) ⌝ }
+    ensures { λ r. ⌜ (r ≡ true → Passed (now (t .entry)) m (i + 1) (now (heads .entry)) (now (marks .exit))) × (r ≡ false → pairs apart (rows 19 m (now (t .entry)) 0) ≡ false) ⌝ }
 {
-    let head = index(heads[p]);
-    if m <= head {
-        return true;
-    }
-    let next = index(after[head]);
+    let next = index(after[i]);
     if m <= next {
         return true;
     }
-    chain_apart(t, m, p, heads, after, marks)
+    let p = record::page_of(t, 19, i);
+    let at = p.0;
+    let head = index(heads[at]);
+    if head != i {
+        return true;
+    }
+    chain_apart(t, m, i, after, marks)
 }
 
-fn pages_apart(
+fn rows_apart(
     t: &[u8],
     m: usize,
-    pages: usize,
     heads: &[u16; 1024],
     after: &[u16; 512],
     marks: &mut [u16; 4096],
 ) -> bool
-    requires { ⌜ (m * 19 ≤ length (now t)) × (m ≤ 512) × (pages ≤ 1024) × (every placed (rows 19 m (now t) 0) ≡ true) × Linked (now t) m 0 (now heads) (now after) ⌝ }
-    ensures { λ r. ⌜ r ≡ freePages (rows 19 m (now (t .entry)) 0) pages 0 (now (marks .entry)) ⌝ }
+    requires { ⌜ (m * 19 ≤ length (now t)) × (m ≤ 512) × (every (pageBelow 1024) (rows 19 m (now t) 0) ≡ true) × (every placed (rows 19 m (now t) 0) ≡ true) × Linked (now t) m 0 (now heads) (now after) × Passed (now t) m 0 (now heads) (now marks) ⌝ }
+    ensures { λ r. ⌜ r ≡ pairs apart (rows 19 m (now (t .entry)) 0) ⌝ }
 {
-    let mut p = 0;
-    while p < pages {
-        if !page_apart(t, m, p, heads, after, marks) {
+    let mut i = 0;
+    while i < m {
+        if !row_apart(t, m, i, heads, after, marks) {
             return false;
         }
-        p += 1;
+        i += 1;
     }
     true
 }
 
 // 512 is no row's index.
-fn by_pages(t: &[u8], m: usize, pages: usize) -> bool
-    requires { ⌜ (m * 19 ≤ length (now t)) × (m ≤ 512) × (pages ≤ 1024) × (every (pageBelow pages) (rows 19 m (now t) 0) ≡ true) × (every placed (rows 19 m (now t) 0) ≡ true) ⌝ }
+fn by_pages(t: &[u8], m: usize) -> bool
+    requires { ⌜ (m * 19 ≤ length (now t)) × (m ≤ 512) × (every (pageBelow 1024) (rows 19 m (now t) 0) ≡ true) × (every placed (rows 19 m (now t) 0) ≡ true) ⌝ }
     ensures { λ r. ⌜ r ≡ pairs apart (rows 19 m (now (t .entry)) 0) ⌝ }
 {
     let mut heads = [512u16; 1024];
     let mut after = [512u16; 512];
     let mut marks = [0u16; 4096];
     link(t, m, &mut heads, &mut after);
-    pages_apart(t, m, pages, &heads, &after, &mut marks)
+    rows_apart(t, m, &heads, &after, &mut marks)
 }
 
 // No uncommitted row is of another owner than the last that was seen; 0 while none was.
@@ -172,13 +168,16 @@ fn one_owner(t: &[u8], m: usize) -> bool
     true
 }
 
-// The rows of one owner clash with none, so chains and marks are for two owners or more.
-pub fn all_apart(t: &[u8], m: usize, pages: usize) -> bool
-    requires { ⌜ (m * 19 ≤ length (now t)) × (m ≤ 512) × (pages ≤ 1024) × (every (pageBelow pages) (rows 19 m (now t) 0) ≡ true) × (every placed (rows 19 m (now t) 0) ≡ true) ⌝ }
+// The rows of one owner clash with none, so chains and marks are for two owners or more, and pay once rows are many.
+pub fn all_apart(t: &[u8], m: usize) -> bool
+    requires { ⌜ (m * 19 ≤ length (now t)) × (m ≤ 512) × (every (pageBelow 1024) (rows 19 m (now t) 0) ≡ true) × (every placed (rows 19 m (now t) 0) ≡ true) ⌝ }
     ensures { λ r. ⌜ r ≡ pairs apart (rows 19 m (now (t .entry)) 0) ⌝ }
 {
     if one_owner(t, m) {
         return true;
     }
-    by_pages(t, m, pages)
+    if m <= 16 {
+        return few::all_apart_few(t, m);
+    }
+    by_pages(t, m)
 }

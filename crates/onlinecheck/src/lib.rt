@@ -12,64 +12,56 @@ ghost use Rattle.onlinecheck.specs.Online.{owned, inLog, aboveStamp, oth
 ghost use Rattle.onlinecheck.specs.Marks.{slotted};
 ghost use Rattle.onlinecheck.specs.Bytes.{placed};
 
-mod formed; // S7
 mod owned; // S8
-mod tail; // S14
 mod logged; // S10
 mod stamped; // S11
+mod each; // S7, S8, S10, S11
+mod tail; // S14
 mod once; // S9
 mod dirty; // S12
+mod few; // S13, few rows
 mod apart; // S13
 
-// The rows by themselves, with their owners and the log.
+// The rows by themselves, with their owners, the log and the stamps.
 fn sound_rows(
     online: &[u8],
     m: usize,
     log: &[u8],
     n: usize,
+    marks: &[u8],
     tables: &[u8],
     size: usize,
     pages: usize,
     last: u64,
 ) -> bool
-    requires { ⌜ (m * 19 ≤ length (now online)) × (n * 14 ≤ length (now log)) × (n ≤ last) × (last < 4294967296) × (35 ≤ length (now tables)) ⌝ }
-    ensures { λ r. ⌜ r ≡ (every (wellFormed size pages) (rows 19 m (now (online .entry)) 0) && every (owned (now (tables .entry)) last) (rows 19 m (now (online .entry)) 0) && zeros (drop (m * 19) (now (online .entry))) && every (inLog (now (log .entry)) (last - n + 1)) (rows 19 m (now (online .entry)) 0)) ⌝ }
+    requires { ⌜ (m * 19 ≤ length (now online)) × (n * 14 ≤ length (now log)) × (n ≤ last) × (last < 4294967296) × (length (now marks) ≡ 12 + 8 * pages) × (35 ≤ length (now tables)) ⌝ }
+    ensures { λ r. ⌜ r ≡ (every (wellFormed size pages) (rows 19 m (now (online .entry)) 0) && every (owned (now (tables .entry)) last) (rows 19 m (now (online .entry)) 0) && zeros (drop (m * 19) (now (online .entry))) && every (inLog (now (log .entry)) (last - n + 1)) (rows 19 m (now (online .entry)) 0) && every (aboveStamp (now (marks .entry))) (rows 19 m (now (online .entry)) 0)) ⌝ }
 {
-    if !formed::all_formed(online, m, size, pages) {
+    if !each::all_sound(online, m, log, n, marks, tables, size, pages, last) {
         return false;
     }
-    if !owned::all_owned(online, m, tables, last) {
-        return false;
-    }
-    if !tail::zero_from(online, m * 19) {
-        return false;
-    }
-    logged::all_logged(online, m, log, n, last)
+    tail::zero_from(online, m * 19)
 }
 
-// The rows with the stamps, the entries and one another.
+// The rows with the entries and one another.
 fn sound_ties(
     online: &[u8],
     m: usize,
     first: u64,
-    marks: &[u8],
     tables: &[u8],
     pages: usize,
     frames: usize,
 ) -> bool
-    requires { ⌜ (m * 19 ≤ length (now online)) × (length (now marks) ≡ 12 + 8 * pages) × (length (now tables) ≡ 35 + frames + pages) × (pages ≤ 1024) × (every (pageBelow pages) (rows 19 m (now online) 0) ≡ true) × (every (slotted first) (rows 19 m (now online) 0) ≡ true) × (m ≤ 512) × (every placed (rows 19 m (now online) 0) ≡ true) ⌝ }
-    ensures { λ r. ⌜ r ≡ (every (aboveStamp (now (marks .entry))) (rows 19 m (now (online .entry)) 0) && pairs otherNumber (rows 19 m (now (online .entry)) 0) && upTo (entryAgrees (part (35 + frames) pages (now (tables .entry))) (rows 19 m (now (online .entry)) 0)) pages 0 && pairs apart (rows 19 m (now (online .entry)) 0)) ⌝ }
+    requires { ⌜ (m * 19 ≤ length (now online)) × (length (now tables) ≡ 35 + frames + pages) × (pages ≤ 1024) × (every (pageBelow pages) (rows 19 m (now online) 0) ≡ true) × (every (slotted first) (rows 19 m (now online) 0) ≡ true) × (m ≤ 512) × (every placed (rows 19 m (now online) 0) ≡ true) ⌝ }
+    ensures { λ r. ⌜ r ≡ (pairs otherNumber (rows 19 m (now (online .entry)) 0) && upTo (entryAgrees (part (35 + frames) pages (now (tables .entry))) (rows 19 m (now (online .entry)) 0)) pages 0 && pairs apart (rows 19 m (now (online .entry)) 0)) ⌝ }
 {
-    if !stamped::all_above(online, m, marks, pages) {
-        return false;
-    }
     if !once::all_once(online, m, first) {
         return false;
     }
     if !dirty::all_agree(online, m, tables, pages, frames) {
         return false;
     }
-    apart::all_apart(online, m, pages)
+    apart::all_apart(online, m)
 }
 
 // The first m rows of the online table are sound with the n log rows, the stamps and the tables; `last` is the last log number.
@@ -88,9 +80,9 @@ pub fn sound_online(
     requires { ⌜ (m * 19 ≤ length (now online)) × (n * 14 ≤ length (now log)) × (n ≤ last) × (last < 4294967296) × (length (now marks) ≡ 12 + 8 * pages) × (length (now tables) ≡ 35 + frames + pages) × (pages ≤ 1024) × (frames ≤ 64) × (size ≤ 4096) × (m ≤ 512) × (n ≤ 2048) ⌝ }
     ensures { λ r. ⌜ r ≡ onlineTest (now (online .entry)) m (now (log .entry)) n (now (marks .entry)) (now (tables .entry)) size pages frames last ⌝ }
 {
-    if !sound_rows(online, m, log, n, tables, size, pages, last) {
+    if !sound_rows(online, m, log, n, marks, tables, size, pages, last) {
         return false;
     }
     let first = last - n as u64 + 1;
-    sound_ties(online, m, first, marks, tables, pages, frames)
+    sound_ties(online, m, first, tables, pages, frames)
 }

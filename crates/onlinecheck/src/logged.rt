@@ -1,12 +1,11 @@
 // S10: a committed row is the log's row of its number. By S8 no number is above the last.
 ghost use mathlib.Core.Path.{_≡_};
-ghost use mathlib.Core.Bool.{true};
 ghost use Prim.Native.Nat.{_+_, _*_, _-_, _≤_, _<_};
 ghost use lib.ListN.{length};
-ghost use Rattle.record.specs.Rows.{rowAt, rows};
+ghost use Rattle.record.specs.Rows.{rowAt};
 ghost use Rattle.record.specs.Record.{numberOf, bodyOf};
-ghost use Rattle.rules.specs.Sound.{every, same};
-ghost use Rattle.onlinecheck.specs.Online.{inLog, numberUpTo};
+ghost use Rattle.rules.specs.Sound.{same};
+ghost use Rattle.onlinecheck.specs.Online.{inLog};
 
 // The record of online row i is log row j, byte for byte: compared as words, since equal words have equal bytes.
 fn same_row(t: &[u8], i: usize, log: &[u8], j: usize) -> bool
@@ -21,7 +20,7 @@ fn same_row(t: &[u8], i: usize, log: &[u8], j: usize) -> bool
         & (word::load(t, a + 12, 2) == word::load(log, b + 12, 2))
 }
 
-fn is_logged(t: &[u8], i: usize, log: &[u8], n: usize, last: u64) -> bool
+pub fn is_logged(t: &[u8], i: usize, log: &[u8], n: usize, last: u64) -> bool
     requires { ⌜ (i * 19 + 19 ≤ length (now t)) × (n * 14 ≤ length (now log)) × (n ≤ last) × (last < 4294967296) × (numberOf (rowAt 19 (now t) i) ≤ last) ⌝ }
     ensures { λ r. ⌜ r ≡ inLog (now (log .entry)) (last - n + 1) (rowAt 19 (now (t .entry)) i) ⌝ }
 {
@@ -36,18 +35,4 @@ fn is_logged(t: &[u8], i: usize, log: &[u8], n: usize, last: u64) -> bool
     }
     let j = (k.0 - first) as usize;
     same_row(t, i, log, j)
-}
-
-pub fn all_logged(t: &[u8], m: usize, log: &[u8], n: usize, last: u64) -> bool
-    requires { ⌜ (m * 19 ≤ length (now t)) × (n * 14 ≤ length (now log)) × (n ≤ last) × (last < 4294967296) × (every (numberUpTo last) (rows 19 m (now t) 0) ≡ true) ⌝ }
-    ensures { λ r. ⌜ r ≡ every (inLog (now (log .entry)) (last - n + 1)) (rows 19 m (now (t .entry)) 0) ⌝ }
-{
-    let mut i = 0;
-    while i < m {
-        if !is_logged(t, i, log, n, last) {
-            return false;
-        }
-        i += 1;
-    }
-    true
 }

@@ -2,11 +2,10 @@
 ghost use mathlib.Core.Path.{_≡_};
 ghost use Prim.Native.Nat.{_+_, _*_, _≤_};
 ghost use lib.ListN.{length};
-ghost use Rattle.record.specs.Rows.{rowAt, rows};
-ghost use Rattle.rules.specs.Sound.{every};
+ghost use Rattle.record.specs.Rows.{rowAt};
 ghost use Rattle.onlinecheck.specs.Online.{owned};
 
-fn is_owned(t: &[u8], i: usize, tables: &[u8], last: u64) -> bool
+pub fn is_owned(t: &[u8], i: usize, tables: &[u8], last: u64) -> bool
     requires { ⌜ (i * 19 + 19 ≤ length (now t)) × (35 ≤ length (now tables)) ⌝ }
     ensures { λ r. ⌜ r ≡ owned (now (tables .entry)) last (rowAt 19 (now (t .entry)) i) ⌝ }
 {
@@ -20,18 +19,4 @@ fn is_owned(t: &[u8], i: usize, tables: &[u8], last: u64) -> bool
     }
     let at = 2 + word::wide(x) as usize;
     (k.0 == 0) & (tables[at] == 1)
-}
-
-pub fn all_owned(t: &[u8], m: usize, tables: &[u8], last: u64) -> bool
-    requires { ⌜ (m * 19 ≤ length (now t)) × (35 ≤ length (now tables)) ⌝ }
-    ensures { λ r. ⌜ r ≡ every (owned (now (tables .entry)) last) (rows 19 m (now (t .entry)) 0) ⌝ }
-{
-    let mut i = 0;
-    while i < m {
-        if !is_owned(t, i, tables, last) {
-            return false;
-        }
-        i += 1;
-    }
-    true
 }

@@ -1,14 +1,12 @@
 // S11: a committed row's number is above its page's stamp. By S7 its page is in the store.
 ghost use mathlib.Core.Path.{_≡_};
-ghost use mathlib.Core.Bool.{true};
 ghost use Prim.Native.Nat.{_+_, _*_, _≤_, _<_};
 ghost use lib.ListN.{length};
-ghost use Rattle.record.specs.Rows.{rowAt, rows};
+ghost use Rattle.record.specs.Rows.{rowAt};
 ghost use Rattle.record.specs.Record.{pageOf};
-ghost use Rattle.rules.specs.Sound.{every};
-ghost use Rattle.onlinecheck.specs.Online.{aboveStamp, pageBelow};
+ghost use Rattle.onlinecheck.specs.Online.{aboveStamp};
 
-fn is_above(t: &[u8], i: usize, marks: &[u8], pages: usize) -> bool
+pub fn is_above(t: &[u8], i: usize, marks: &[u8], pages: usize) -> bool
     requires { ⌜ (i * 19 + 19 ≤ length (now t)) × (length (now marks) ≡ 12 + 8 * pages) × (pageOf (rowAt 19 (now t) i) < pages) ⌝ }
     ensures { λ r. ⌜ r ≡ aboveStamp (now (marks .entry)) (rowAt 19 (now (t .entry)) i) ⌝ }
 {
@@ -19,18 +17,4 @@ fn is_above(t: &[u8], i: usize, marks: &[u8], pages: usize) -> bool
     let p = record::page_of(t, 19, i);
     let k = record::number_of(t, i);
     word::load(marks, 12 + 4 * p.0, 4) < k.0
-}
-
-pub fn all_above(t: &[u8], m: usize, marks: &[u8], pages: usize) -> bool
-    requires { ⌜ (m * 19 ≤ length (now t)) × (length (now marks) ≡ 12 + 8 * pages) × (every (pageBelow pages) (rows 19 m (now t) 0) ≡ true) ⌝ }
-    ensures { λ r. ⌜ r ≡ every (aboveStamp (now (marks .entry))) (rows 19 m (now (t .entry)) 0) ⌝ }
-{
-    let mut i = 0;
-    while i < m {
-        if !is_above(t, i, marks, pages) {
-            return false;
-        }
-        i += 1;
-    }
-    true
 }

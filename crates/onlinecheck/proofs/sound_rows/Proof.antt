@@ -1,26 +1,23 @@
--- `onlinecheck::sound_rows` meets its contract: each way out by the tests that led there.
+-- `onlinecheck::sound_rows` meets its contract: the rows one by one, then the bytes past them.
 use borrow.Author.Needs.{needs}
+use borrow.Author.Tests.{not-true, not-false}
+use Prim.Native.Nat.{_+_, _*_, _-_}
 use denote.Ref.{now}
-use Rattle.onlinecheck.proofs.Laws.{owned-number}
-use Rattle.onlinecheck.proofs.Rows.{passed, failed}
+use mathlib.Core.Path.{_∙_}
+use lib.ListN.{drop}
+use Rattle.record.specs.Rows.{rows}
+use Rattle.rules.specs.Sound.{zeros}
+use Rattle.onlinecheck.proofs.Laws.{rows-each}
 use Rattle.onlinecheck.proofs.sound_rows.Statement.{statement}
 use Rattle.onlinecheck.proofs.sound_rows.Tie as tie
 
-all-formed-requires : tie.Need-all-formed-requires
-all-formed-requires c κs = search needs
+all-sound-requires : tie.Need-all-sound-requires
+all-sound-requires c κs = search needs
 
 returns : tie.Need-returns
-returns c = rw (failed (c .before .all-formed .ensures) (c .if1 .taken))
-
-all-owned-requires : tie.Need-all-owned-requires
-all-owned-requires c κs = search needs
-
-returns-2 : tie.Need-returns-2
-returns-2 c =
-    rw (
-      passed (c .before .before .before .all-formed .ensures) (c .before .before .if1 .left),
-      failed (c .before .all-owned .ensures) (c .if2 .taken),
-    )
+returns c =
+    let a = c .before .before .before .before .before .before .args in
+    rw (not-true (c .before .all-sound .result) (c .if1 .taken)) at (rows-each (now (a .tables)) (now (a .log)) (now (a .marks)) (a .size) (a .pages) (a .last) (a .last - a .n + 1) (rows 19 (a .m) (now (a .online)) 0) (c .before .all-sound .result) (zeros (drop (a .m * 19) (now (a .online)))) (c .before .all-sound .ensures))
 
 mul-zero-from : tie.Need-mul-zero-from
 mul-zero-from c = search needs
@@ -28,38 +25,13 @@ mul-zero-from c = search needs
 zero-from-requires : tie.Need-zero-from-requires
 zero-from-requires c κs = search needs
 
-returns-3 : tie.Need-returns-3
-returns-3 c =
-    rw (
-      passed (c .before .before .before .before .before .all-formed .ensures) (c .before .before .before .before .if1 .left),
-      passed (c .before .before .before .all-owned .ensures) (c .before .before .if2 .left),
-      failed (c .before .zero-from .ensures) (c .if3 .taken),
-    )
-
-all-logged-requires : tie.Need-all-logged-requires
-all-logged-requires c κs =
-    let a = c .before .before .before .before .before .before .before .before .before .args in
-    (search needs, search needs, search needs, search needs, owned-number (now (a .tables)) (a .last) _ (passed (c .before .before .before .all-owned .ensures) (c .before .before .if2 .left)))
-
-returns-4 : tie.Need-returns-4
-returns-4 c =
-    rw (
-      passed (c .before .before .before .before .before .before .all-formed .ensures) (c .before .before .before .before .before .if1 .left),
-      passed (c .before .before .before .before .all-owned .ensures) (c .before .before .before .if2 .left),
-      passed (c .before .before .zero-from .ensures) (c .before .if3 .left),
-    )
-    (c .all-logged .ensures)
+returns-2 : tie.Need-returns-2
+returns-2 c =
+    let a = c .before .before .before .before .before .before .before .args in
+    c .zero-from .ensures
+    ∙ (rw (not-false (c .before .before .all-sound .result) (c .before .if1 .left)) at (rows-each (now (a .tables)) (now (a .log)) (now (a .marks)) (a .size) (a .pages) (a .last) (a .last - a .n + 1) (rows 19 (a .m) (now (a .online)) 0) (c .before .before .all-sound .result) (zeros (drop (a .m * 19) (now (a .online)))) (c .before .before .all-sound .ensures)))
 
 pub sound-rows-spec : {M : Type 1} → statement M
 sound-rows-spec =
     tie.close
-    (tie.spec
-    all-formed-requires
-    returns
-    all-owned-requires
-    returns-2
-    mul-zero-from
-    zero-from-requires
-    returns-3
-    all-logged-requires
-    returns-4)
+    (tie.spec all-sound-requires returns mul-zero-from zero-from-requires returns-2)

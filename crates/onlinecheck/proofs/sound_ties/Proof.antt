@@ -1,45 +1,38 @@
 -- `onlinecheck::sound_ties` meets its contract: each way out by the tests that led there.
 use borrow.Author.Needs.{needs}
+use denote.Ref.{now}
+use Rattle.record.specs.Rows.{rows}
+use Rattle.onlinecheck.proofs.Marks.{pages-within}
 use Rattle.onlinecheck.proofs.Rows.{passed, failed}
 use Rattle.onlinecheck.proofs.sound_ties.Statement.{statement}
 use Rattle.onlinecheck.proofs.sound_ties.Tie as tie
 
-all-above-requires : tie.Need-all-above-requires
-all-above-requires c κs = search needs
-
-returns : tie.Need-returns
-returns c = rw (failed (c .before .all-above .ensures) (c .if1 .taken))
-
 all-once-requires : tie.Need-all-once-requires
 all-once-requires c κs = search needs
 
-returns-2 : tie.Need-returns-2
-returns-2 c =
-    rw (
-      passed (c .before .before .before .all-above .ensures) (c .before .before .if1 .left),
-      failed (c .before .all-once .ensures) (c .if2 .taken),
-    )
+returns : tie.Need-returns
+returns c = rw (failed (c .before .all-once .ensures) (c .if1 .taken))
 
 all-agree-requires : tie.Need-all-agree-requires
 all-agree-requires c κs = search needs
 
-returns-3 : tie.Need-returns-3
-returns-3 c =
+returns-2 : tie.Need-returns-2
+returns-2 c =
     rw (
-      passed (c .before .before .before .before .before .all-above .ensures) (c .before .before .before .before .if1 .left),
-      passed (c .before .before .before .all-once .ensures) (c .before .before .if2 .left),
-      failed (c .before .all-agree .ensures) (c .if3 .taken),
+      passed (c .before .before .before .all-once .ensures) (c .before .before .if1 .left),
+      failed (c .before .all-agree .ensures) (c .if2 .taken),
     )
 
 all-apart-requires : tie.Need-all-apart-requires
-all-apart-requires c κs = search needs
+all-apart-requires c κs =
+    let s = c .before .before .before .before .before .before in
+    (s .pre .0, s .pre .5, pages-within (s .args .pages) (rows 19 (s .args .m) (now (s .args .online)) 0) (s .pre .2) (s .pre .3), s .pre .6)
 
-returns-4 : tie.Need-returns-4
-returns-4 c =
+returns-3 : tie.Need-returns-3
+returns-3 c =
     rw (
-      passed (c .before .before .before .before .before .before .all-above .ensures) (c .before .before .before .before .before .if1 .left),
-      passed (c .before .before .before .before .all-once .ensures) (c .before .before .before .if2 .left),
-      passed (c .before .before .all-agree .ensures) (c .before .if3 .left),
+      passed (c .before .before .before .before .all-once .ensures) (c .before .before .before .if1 .left),
+      passed (c .before .before .all-agree .ensures) (c .before .if2 .left),
     )
     (c .all-apart .ensures)
 
@@ -47,11 +40,9 @@ pub sound-ties-spec : {M : Type 1} → statement M
 sound-ties-spec =
     tie.close
     (tie.spec
-    all-above-requires
-    returns
     all-once-requires
-    returns-2
+    returns
     all-agree-requires
-    returns-3
+    returns-2
     all-apart-requires
-    returns-4)
+    returns-3)

@@ -1,0 +1,61 @@
+// S7, S8, S10 and S11: what each row shows without the others, in one walk, so that its fields are read once.
+// A row is asked a clause once it has passed those before, which the clause may lean on.
+ghost use mathlib.Core.Path.{_≡_};
+ghost use Prim.Native.Nat.{_+_, _*_, _-_, _≤_, _<_};
+ghost use lib.ListN.{length};
+ghost use Rattle.record.specs.Rows.{rowAt, rows};
+ghost use Rattle.rules.specs.Sound.{every};
+ghost use Rattle.onlinecheck.specs.Online.{rowTest};
+use super::logged;
+use super::owned;
+use super::stamped;
+
+fn is_sound(
+    t: &[u8],
+    i: usize,
+    log: &[u8],
+    n: usize,
+    marks: &[u8],
+    tables: &[u8],
+    size: usize,
+    pages: usize,
+    last: u64,
+) -> bool
+    requires { ⌜ (i * 19 + 19 ≤ length (now t)) × (n * 14 ≤ length (now log)) × (n ≤ last) × (last < 4294967296) × (length (now marks) ≡ 12 + 8 * pages) × (35 ≤ length (now tables)) ⌝ }
+    ensures { λ r. ⌜ r ≡ rowTest (now (tables .entry)) (now (log .entry)) (now (marks .entry)) size pages last (last - n + 1) (rowAt 19 (now (t .entry)) i) ⌝ }
+{
+    if !durable::well_formed(t, 19, i, size, pages) {
+        return false;
+    }
+    if !owned::is_owned(t, i, tables, last) {
+        return false;
+    }
+    if !logged::is_logged(t, i, log, n, last) {
+        return false;
+    }
+    stamped::is_above(t, i, marks, pages)
+}
+
+pub fn all_sound(
+    t: &[u8],
+    m: usize,
+    log: &[u8],
+    n: usize,
+    marks: &[u8],
+    tables: &[u8],
+    size: usize,
+    pages: usize,
+    last: u64,
+) -> bool
+    requires { ⌜ (m * 19 ≤ length (now t)) × (n * 14 ≤ length (now log)) × (n ≤ last) × (last < 4294967296) × (length (now marks) ≡ 12 + 8 * pages) × (35 ≤ length (now tables)) ⌝ }
+    ensures { λ r. ⌜ r ≡ every (rowTest (now (tables .entry)) (now (log .entry)) (now (marks .entry)) size pages last (last - n + 1)) (rows 19 m (now (t .entry)) 0) ⌝ }
+{
+    let mut i = 0;
+    while i < m {
+        if !is_sound(t, i, log, n, marks, tables, size, pages, last) {
+            return false;
+        }
+        i += 1;
+    }
+    true
+}
