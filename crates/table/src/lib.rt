@@ -184,7 +184,7 @@ fn keep_row(t: &mut [u8], k: usize, j: usize, whole: bool, owner: u8, p: PageNo)
     if is_gone(t, j, whole, owner, p) {
         return k;
     }
-    bytes::slide(t, j * 19, k * 19, 19);
+    bytes::slide_row(t, j * 19, k * 19);
     k + 1
 }
 
