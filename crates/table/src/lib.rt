@@ -82,14 +82,15 @@ pub fn append(
     fill_row(&mut t[a..e], page, offset, w, kind, v, owner);
 }
 
-// The bytes of a log row, under its number, as a committed row.
+// The bytes of a log row, under its number, as a committed row. It is made apart, so that its bytes can move as words.
 fn enter_row(row: &mut [u8], b: &[u8], k: LogNo)
     requires { ⌜ (length (now row) ≡ 19) × (length (now b) ≡ 14) ⌝ }
     ensures { λ r. ⌜ now (row .exit) ≡ entered (now (b .entry)) (k .0) ⌝ }
 {
-    bytes::wipe(row);
-    bytes::copy(row, b);
-    word::store(row, 15, 4, k.0);
+    let mut made = [0u8; 19];
+    bytes::copy(&mut made, b);
+    word::store(&mut made, 15, 4, k.0);
+    bytes::copy(row, &made);
 }
 
 // Row i of the log in row m, committed under the number k.
