@@ -7,6 +7,7 @@ use mathlib.Core.List.{List, _∷_, _++_, append-assoc, append-nil, map}
 use lib.ListN.{length, take, drop, replicate, take-append-drop, length-append, length-drop, drop-of-length-le}
 use lib.Seq.{take-take, drop-drop, length-take-le}
 use lib.Dec.{eqb}
+use borrow.Author.Tests.{eq-eqb, ne-eqb}
 use Rattle.word.specs.Word.{put}
 use Rattle.word.proofs.Laws.{length-put}
 use Rattle.record.specs.Part.{part, withPart}
@@ -233,10 +234,14 @@ log-all x n m t o l k j inv q =
       e,
     )
 
--- `is_gone`
-pub gone-page : (w : Bool) (x p q a : ℕ) (r : List ℕ) → w ≡ false → q ≡ pageOf r → a ≡ ownerOf r → eqb q p && eqb a x ≡ gone w x p r
-gone-page w x p q a r we qe ae =
-    ap (λ (z : ℕ). eqb z p && eqb a x) qe ∙ ap (λ (z : ℕ). eqb (pageOf r) p && eqb z x) ae ∙ ap (λ (z : Bool). gone z x p r) (sym we)
+-- `is_gone`: a row of another page stays, one of the page goes by its owner
+pub gone-other : (w : Bool) (x p q : ℕ) (r : List ℕ) → w ≡ false → q ≡ pageOf r → (q ≡ p → ⊥) → false ≡ gone w x p r
+gone-other w x p q r we qe ne =
+    ap (λ (z : Bool). z && eqb (ownerOf r) x) (sym (ne-eqb (pageOf r) p (λ e. ne (qe ∙ e)))) ∙ ap (λ (z : Bool). gone z x p r) (sym we)
+
+pub gone-page : (w : Bool) (x p q a : ℕ) (r : List ℕ) → w ≡ false → q ≡ pageOf r → q ≡ p → a ≡ ownerOf r → eqb a x ≡ gone w x p r
+gone-page w x p q a r we qe e ae =
+    ap (λ (z : ℕ). eqb z x) ae ∙ ap (λ (z : Bool). z && eqb (ownerOf r) x) (sym (eq-eqb (pageOf r) p (sym qe ∙ e))) ∙ ap (λ (z : Bool). gone z x p r) (sym we)
 
 -- `squeeze`: j rows are passed, of which k stay
 pub record Squeezing (b : List ℕ → Bool) (m : ℕ) (o t : List ℕ) (k j : ℕ) : Type 0 where

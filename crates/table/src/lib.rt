@@ -164,17 +164,19 @@ pub fn append_log(log: &mut [u8], n: usize, t: &[u8], m: usize, owner: u8) -> us
     k
 }
 
-// Whether row j is one to delete.
+// Whether row j is one to delete. Few are of the one page: the others are told by that alone.
 fn is_gone(t: &[u8], j: usize, whole: bool, owner: u8, p: PageNo) -> bool
     requires { ⌜ j * 19 + 19 ≤ length (now t) ⌝ }
     ensures { λ r. ⌜ r ≡ gone whole owner (p .0) (rowAt 19 (now (t .entry)) j) ⌝ }
 {
-    let owned = record::owner_of(t, j) == owner;
     if whole {
-        return owned;
+        return record::owner_of(t, j) == owner;
     }
     let q = record::page_of(t, 19, j);
-    (q.0 == p.0) & owned
+    if q.0 != p.0 {
+        return false;
+    }
+    record::owner_of(t, j) == owner
 }
 
 // Row j, if it stays, moved down to row k; the next row to move to.
