@@ -14,8 +14,10 @@ use Rattle.record.specs.Rows.{rows, keep, table}
 use Rattle.record.specs.Record.{onPage, committedOn, applied, gone, smallest, greatest}
 use Rattle.record.proofs.Laws.{getD-part}
 use Rattle.record.proofs.Parts.{length-part}
+use Rattle.table.specs.Seen.{Surveyed}
+use Rattle.table.specs.declared.page.Survey.{Survey}
 use Rattle.order.specs.Order.{without}
-use Rattle.rules.specs.Lent.{Lent, lentOf, sizeOf, pagesOf, framesOf, roomOf, stampAt, orderOf, entryAt, entryOf, entriesOf, onlineOf, inFrame, frameOf, pageIn, withPage, withOrder, withCount}
+use Rattle.rules.specs.Lent.{Lent, lentOf, sizeOf, pagesOf, framesOf, roomOf, countOf, stampAt, orderOf, entryAt, entryOf, entriesOf, onlineOf, inFrame, frameOf, pageIn, withPage, withOrder, withCount}
 use Rattle.rules.specs.Shape.{Shaped}
 use Rattle.rules.specs.Steps.{due, foldable, fromFrame, compactedPage, compactedEntry, compactedOrder, unfolded, compacted, compactStep}
 use Rattle.rules.proofs.Every.{every-at}
@@ -23,7 +25,7 @@ use Rattle.compact.specs.declared.Plan.{Plan}
 use Rattle.compact.specs.declared.Sizes.{Sizes}
 use Rattle.compact.specs.Planned.{Measured, Planned}
 
--- `is_due`
+-- `is_due`, `compact_step`
 pub due-read : (fixed marks log stored tables online pool : List ℕ) (p minDel maxAge m n least last a : ℕ) (r : Bool) → m ≡ num 2 tables 0
     → n ≡ length (keep (committedOn p) (rows 19 m online 0)) → least ≡ smallest 0 (keep (committedOn p) (rows 19 m online 0)) → last ≡ num 4 marks 0 → a ≡ last - least
     → r ≡ (leb 1 n && (leb minDel n || leb maxAge a)) → r ≡ due (lentOf fixed marks log stored tables online pool) p minDel maxAge
@@ -98,9 +100,10 @@ entry-written frames f frees o q x t t′ eo eq et = et ∙ ap (λ (y : List ℕ
 pub count-written : (n : ℕ) (t t′ t″ : List ℕ) → t′ ≡ t → t″ ≡ withCount n t′ → t″ ≡ withCount n t
 count-written n t t′ t″ e f = f ∙ ap (λ (x : List ℕ). withCount n x) e
 
--- `plan_for`
-pub planned-read : (n all most n′ all′ most′ e : ℕ) (r : Plan) → n ≡ n′ → all ≡ all′ → most ≡ most′ → Planned n all e most r → Planned n′ all′ e most′ r
-planned-read n all most n′ all′ most′ e r en ea em k = rw (en, ea, em) at k
+-- the plan by a survey, in the words of the rows
+pub planned-seen : (fixed tables online : List ℕ) (p e : ℕ) (z : Sizes) (v : Survey) (r : Plan) → Measured fixed tables z → Surveyed p (num 2 tables 0) online v → Planned (v .committed) (v .all) e (v .most) r
+    → Planned (length (keep (committedOn p) (rows 19 (z .count) online 0))) (length (keep (onPage p) (rows 19 (z .count) online 0))) e (greatest 0 (keep (committedOn p) (rows 19 (z .count) online 0))) r
+planned-seen fixed tables online p e z v r m s k = rw (m .count) (rw (s .committed, s .all, s .most) at k)
 
 -- a page or a frame of a row of them
 pub one-fits : (p pages size n : ℕ) → p < pages → n ≡ size * pages → p * size + size ≤ n
@@ -195,14 +198,14 @@ module _ (fixed marks log stored tables online pool : List ℕ) (p : ℕ) (z : S
   pub tables-there : Shaped lent → p < pagesOf lent → (entryAt (z .frames) p < length tables) × (getD tables 2 0 ≤ z .frames) × (z .frames ≤ 64) × (length online ≡ z .room * 19) × (z .count ≤ z .room)
   tables-there w h = let y = w .sized in rw (m .frames, m .room, m .count) (omega arith, w .used, y .frames, omega arith, w .count)
 
--- `plan_for` asks no more than the shape
-pub plan-there : (s : Lent) (p : ℕ) (z : Sizes) → Shaped s → p < pagesOf s → Measured (s .durable .fixed) (s .lost .tables) z → (z .count * 19 ≤ length (s .lost .online)) × (entryAt (z .frames) p < length (s .lost .tables))
-plan-there s p z w h m = let y = w .sized in rw (m .frames, m .count) (omega (arith, w .count, y .online), omega arith)
-
 -- one page is written
 pub writes-done : (s : Lent) (p : ℕ) → 1 ≡ compacted s p .writes
 unfolding compacted
 writes-done s p = refl
+
+-- a survey of as many rows as there are
+pub surveyed-all : (p m : ℕ) (s : Lent) (v : Survey) → m ≡ countOf s → Surveyed p m (s .lost .online) v → Surveyed p (countOf s) (s .lost .online) v
+surveyed-all p m s v e k = rw e at k
 
 -- `compact_step`
 pub step-not : (minDel maxAge p : ℕ) (s : Lent) (b : Bool) → b ≡ due s p minDel maxAge → not b ≡ true

@@ -11,7 +11,8 @@ ghost use Rattle.record.specs.Rows.{rows, keep, table};
 ghost use Rattle.record.specs.Record.{onPage, committedOn, applied, gone, greatest};
 ghost use Rattle.order.specs.Order.{without};
 ghost use Rattle.order.specs.Meant.{listOf};
-ghost use Rattle.rules.specs.Lent.{lentOf, pagesOf, pageIn, withPage, withOrder, withCount, entryAt};
+ghost use Rattle.table.specs.Seen.{Surveyed};
+ghost use Rattle.rules.specs.Lent.{lentOf, pagesOf, countOf, pageIn, withPage, withOrder, withCount, entryAt};
 ghost use Rattle.rules.specs.Shape.{Shaped};
 ghost use Rattle.rules.specs.Steps.{due, compacted, compactStep};
 ghost use Rattle.compact.specs.Planned.{Measured, Planned};
@@ -144,12 +145,13 @@ fn plan_by(s: Survey, e: u8) -> Plan
     }
 }
 
-fn plan_for(tables: &[u8], online: &[u8], z: Sizes, p: PageNo) -> Plan
-    requires { ⌜ (z .count * 19 ≤ length (now online)) × (entryAt (z .frames) (p .0) < length (now tables)) ⌝ }
-    ensures { λ r. ⌜ Planned (length (keep (committedOn (p .0)) (rows 19 (z .count) (now (online .entry)) 0))) (length (keep (onPage (p .0)) (rows 19 (z .count) (now (online .entry)) 0))) (getD (now (tables .entry)) (entryAt (z .frames) (p .0)) 0) (greatest 0 (keep (committedOn (p .0)) (rows 19 (z .count) (now (online .entry)) 0))) r ⌝ }
+// The plan for page p by a survey of its records.
+fn plan_for(tables: &[u8], z: Sizes, p: PageNo, s: Survey) -> Plan
+    requires { ⌜ entryAt (z .frames) (p .0) < length (now tables) ⌝ }
+    ensures { λ r. ⌜ Planned (s .committed) (s .all) (getD (now (tables .entry)) (entryAt (z .frames) (p .0)) 0) (s .most) r ⌝ }
 {
     let at = 35 + z.frames + p.0;
-    plan_by(table::survey(online, z.count, p), tables[at])
+    plan_by(s, tables[at])
 }
 
 // The page in place among the stored pages: its frame's bytes, or its committed records folded in.
@@ -217,8 +219,8 @@ fn compact_lost(tables: &mut [u8], online: &mut [u8], z: Sizes, p: PageNo, plan:
     delete_folded(tables, online, z.count, z.room, p);
 }
 
-// Compact, on all the lent areas: the page is written, due or not.
-pub fn compact_page(
+// Compact by a survey of the page's records, on all the lent areas.
+fn compact_by(
     fixed: &[u8],
     marks: &mut [u8],
     log: &[u8],
@@ -227,14 +229,15 @@ pub fn compact_page(
     online: &mut [u8],
     pool: &[u8],
     p: PageNo,
+    s: Survey,
 ) -> Compacted
-    requires { ⌜ Shaped (lentOf (now fixed) (now marks) (now log) (now stored) (now tables) (now online) (now pool)) × (p .0 < pagesOf (lentOf (now fixed) (now marks) (now log) (now stored) (now tables) (now online) (now pool))) ⌝ }
+    requires { ⌜ Shaped (lentOf (now fixed) (now marks) (now log) (now stored) (now tables) (now online) (now pool)) × (p .0 < pagesOf (lentOf (now fixed) (now marks) (now log) (now stored) (now tables) (now online) (now pool))) × Surveyed (p .0) (countOf (lentOf (now fixed) (now marks) (now log) (now stored) (now tables) (now online) (now pool))) (now online) s ⌝ }
     ensures reads { λ r. ⌜ r .reads ≡ compacted (lentOf (now (fixed .entry)) (now (marks .entry)) (now (log .entry)) (now (stored .entry)) (now (tables .entry)) (now (online .entry)) (now (pool .entry))) (p .0) .reads ⌝ }
     ensures writes { λ r. ⌜ r .writes ≡ compacted (lentOf (now (fixed .entry)) (now (marks .entry)) (now (log .entry)) (now (stored .entry)) (now (tables .entry)) (now (online .entry)) (now (pool .entry))) (p .0) .writes ⌝ }
     ensures lent { λ r. ⌜ lentOf (now (fixed .entry)) (now (marks .exit)) (now (log .entry)) (now (stored .exit)) (now (tables .exit)) (now (online .exit)) (now (pool .entry)) ≡ compacted (lentOf (now (fixed .entry)) (now (marks .entry)) (now (log .entry)) (now (stored .entry)) (now (tables .entry)) (now (online .entry)) (now (pool .entry))) (p .0) .lent ⌝ }
 {
     let z = measure(fixed, tables);
-    let plan = plan_for(tables, online, z, p);
+    let plan = plan_for(tables, z, p, s);
     write_page(
         stored,
         z.size,
@@ -253,7 +256,28 @@ pub fn compact_page(
     }
 }
 
-// Compact as a step: nothing changes where it is not due.
+// Compact, on all the lent areas: the page is written, due or not.
+pub fn compact_page(
+    fixed: &[u8],
+    marks: &mut [u8],
+    log: &[u8],
+    stored: &mut [u8],
+    tables: &mut [u8],
+    online: &mut [u8],
+    pool: &[u8],
+    p: PageNo,
+) -> Compacted
+    requires { ⌜ Shaped (lentOf (now fixed) (now marks) (now log) (now stored) (now tables) (now online) (now pool)) × (p .0 < pagesOf (lentOf (now fixed) (now marks) (now log) (now stored) (now tables) (now online) (now pool))) ⌝ }
+    ensures reads { λ r. ⌜ r .reads ≡ compacted (lentOf (now (fixed .entry)) (now (marks .entry)) (now (log .entry)) (now (stored .entry)) (now (tables .entry)) (now (online .entry)) (now (pool .entry))) (p .0) .reads ⌝ }
+    ensures writes { λ r. ⌜ r .writes ≡ compacted (lentOf (now (fixed .entry)) (now (marks .entry)) (now (log .entry)) (now (stored .entry)) (now (tables .entry)) (now (online .entry)) (now (pool .entry))) (p .0) .writes ⌝ }
+    ensures lent { λ r. ⌜ lentOf (now (fixed .entry)) (now (marks .exit)) (now (log .entry)) (now (stored .exit)) (now (tables .exit)) (now (online .exit)) (now (pool .entry)) ≡ compacted (lentOf (now (fixed .entry)) (now (marks .entry)) (now (log .entry)) (now (stored .entry)) (now (tables .entry)) (now (online .entry)) (now (pool .entry))) (p .0) .lent ⌝ }
+{
+    let m = word::load(tables, 0, 2) as usize;
+    let s = table::survey(online, m, p);
+    compact_by(fixed, marks, log, stored, tables, online, pool, p, s)
+}
+
+// Compact as a step: nothing changes where it is not due. One survey serves both to judge that and to compact.
 pub fn compact_step(
     fixed: &[u8],
     marks: &mut [u8],
@@ -271,22 +295,14 @@ pub fn compact_step(
     ensures writes { λ r. ⌜ r .writes ≡ compactStep «min_del» «max_age» (lentOf (now (fixed .entry)) (now (marks .entry)) (now (log .entry)) (now (stored .entry)) (now (tables .entry)) (now (online .entry)) (now (pool .entry))) (p .0) .writes ⌝ }
     ensures lent { λ r. ⌜ lentOf (now (fixed .entry)) (now (marks .exit)) (now (log .entry)) (now (stored .exit)) (now (tables .exit)) (now (online .exit)) (now (pool .entry)) ≡ compactStep «min_del» «max_age» (lentOf (now (fixed .entry)) (now (marks .entry)) (now (log .entry)) (now (stored .entry)) (now (tables .entry)) (now (online .entry)) (now (pool .entry))) (p .0) .lent ⌝ }
 {
-    if !is_due(
-        fixed,
-        marks,
-        log,
-        stored,
-        tables,
-        online,
-        pool,
-        p,
-        min_del,
-        max_age,
-    ) {
+    let m = word::load(tables, 0, 2) as usize;
+    let s = table::survey(online, m, p);
+    let last = word::load(marks, 0, 4);
+    if !due_by(s.committed as u64, age(last, s.least), min_del, max_age) {
         return Compacted {
             reads: 0,
             writes: 0,
         };
     }
-    compact_page(fixed, marks, log, stored, tables, online, pool, p)
+    compact_by(fixed, marks, log, stored, tables, online, pool, p, s)
 }

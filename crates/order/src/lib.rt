@@ -30,6 +30,17 @@ fn other(g: usize, f: usize) -> usize
     if g == f { 0 } else { 1 }
 }
 
+// The frame at a place of an order, 0 past its end. The slots are lent: by value, each call in a loop copies them.
+fn slot(slots: &[u8; 65], used: usize, i: usize) -> u8
+    requires { ⌜ used ≤ 65 ⌝ }
+    ensures { λ r. ⌜ r ≡ getD (take used (now (slots .entry))) i 0 ⌝ }
+{
+    if used <= i {
+        return 0;
+    }
+    slots[i]
+}
+
 // The order that the first `used` bytes of a table hold.
 pub fn load(t: &[u8], used: usize) -> Order
     requires { ⌜ (used ≤ 64) × (used ≤ length (now t)) ⌝ }
@@ -45,17 +56,13 @@ pub fn load(t: &[u8], used: usize) -> Order
 }
 
 impl Order {
-    // The frame at a place of the order, 0 past its end.
     fn at(self, i: usize) -> u8
         requires { ⌜ self .used ≤ 65 ⌝ }
         ensures { λ r. ⌜ r ≡ getD (listOf self) i 0 ⌝ }
     {
         let used = self.used;
-        if used <= i {
-            return 0;
-        }
         let slots = self.slots;
-        slots[i]
+        slot(&slots, used, i)
     }
 
     // The frame leaves the order.
@@ -138,9 +145,11 @@ impl Order {
         requires { ⌜ self .used ≤ 65 ⌝ }
         ensures { λ r. ⌜ now (t .exit) ≡ take (length (now (t .entry))) (listOf self ++ replicate (length (now (t .entry))) 0) ⌝ }
     {
+        let used = self.used;
+        let slots = self.slots;
         let mut i: usize = 0;
         while i < t.len() {
-            t[i] = self.at(i);
+            t[i] = slot(&slots, used, i);
             i += 1;
         }
     }

@@ -6,7 +6,7 @@ use mathlib.Core.Bool.{Bool, true, false, not, _&&_}
 use mathlib.Core.List.{List, [], _∷_}
 use lib.ListN.{length}
 use lib.Dec.{eqb, leb, ltb}
-use borrow.Author.Tests.{ltb-true}
+use borrow.Author.Tests.{ltb-true, le-leb, lt-leb}
 use Rattle.word.specs.Word.{num}
 use Rattle.record.specs.Rows.{rowAt, rows, consIf}
 use Rattle.record.specs.Record.{pageOf, entered, wellFormed}
@@ -16,10 +16,21 @@ use Rattle.rules.specs.Steps.{entering, enteringAll}
 use Rattle.table.proofs.Laws.{rows-more, rows-end, rows-start}
 use Rattle.restart.specs.Enter.{entersBy, enteringBy, firstBy, allBy, Logged, Readable, Restartable}
 
--- `enters_row`: the fields read
-pub enters-read : (marks b : List ℕ) (pages k p closed dirty stamp : ℕ) → p ≡ pageOf b → closed ≡ num 4 marks 4 → dirty ≡ num 4 marks (dirtyAt pages p) → stamp ≡ num 4 marks (stampAt p)
-    → (not (leb k closed && eqb dirty 0) && not (leb k stamp)) ≡ entersBy marks pages k b
-enters-read marks b pages k p closed dirty stamp e f g h = rw (f, g, h, e)
+-- `enters_row`: a row above the checkpoint number goes by its page's stamp, another by the dirty number too
+pub enters-new : (marks b : List ℕ) (pages k p closed stamp : ℕ) → p ≡ pageOf b → stamp ≡ num 4 marks (stampAt p) → closed ≡ num 4 marks 4 → closed < k
+    → not (leb k stamp) ≡ entersBy marks pages k b
+enters-new marks b pages k p closed stamp e h f lt =
+    let above : leb k (num 4 marks 4) ≡ false = rw f at (lt-leb k closed lt) in
+    ap (λ (z : ℕ). not (leb k z)) (h ∙ ap (λ (q : ℕ). num 4 marks (stampAt q)) e)
+    ∙ ap (λ (z : Bool). not (z && eqb (num 4 marks (dirtyAt pages (pageOf b))) 0) && not (leb k (num 4 marks (stampAt (pageOf b))))) (sym above)
+
+pub enters-old : (marks b : List ℕ) (pages k p closed dirty stamp : ℕ) → p ≡ pageOf b → stamp ≡ num 4 marks (stampAt p) → closed ≡ num 4 marks 4 → k ≤ closed
+    → dirty ≡ num 4 marks (dirtyAt pages p) → (not (eqb dirty 0) && not (leb k stamp)) ≡ entersBy marks pages k b
+enters-old marks b pages k p closed dirty stamp e h f le g =
+    let within : leb k (num 4 marks 4) ≡ true = rw f at (le-leb k closed le) in
+    ap (λ (z : ℕ). not (eqb dirty 0) && not (leb k z)) (h ∙ ap (λ (q : ℕ). num 4 marks (stampAt q)) e)
+    ∙ ap (λ (z : ℕ). not (eqb z 0) && not (leb k (num 4 marks (stampAt (pageOf b))))) (g ∙ ap (λ (q : ℕ). num 4 marks (dirtyAt pages q)) e)
+    ∙ ap (λ (z : Bool). not (z && eqb (num 4 marks (dirtyAt pages (pageOf b))) 0) && not (leb k (num 4 marks (stampAt (pageOf b))))) (sym within)
 
 -- the rows still to come in a loop over the log
 abbrev pub rest : List ℕ → ℕ → ℕ → ℕ → List ℕ → ℕ → List (List ℕ)

@@ -14,16 +14,20 @@ ghost use Rattle.restart.specs.Enter.{entersBy, enteringBy, firstBy, all
 use number::LogNo;
 
 // Log row i, numbered k, enters: it is above its page's stamp and, at or below the checkpoint number, its page has a dirty number.
+// Numbers ascend through the log, so that the branch on the checkpoint number is foretold well; one on a stamp would not be.
 fn enters_row(marks: &[u8], log: &[u8], i: usize, k: u64, pages: usize) -> bool
     requires { ⌜ (length (now marks) ≡ 12 + 8 * pages) × (pages ≤ 1024) × (i * 14 + 14 ≤ length (now log)) × (pageOf (rowAt 14 (now log) i) < pages) ⌝ }
     ensures { λ r. ⌜ r ≡ entersBy (now (marks .entry)) pages k (rowAt 14 (now (log .entry)) i) ⌝ }
 {
     let p = record::page_of(log, 14, i);
     let page = p.0;
-    let closed = word::load(marks, 4, 4);
-    let dirty = word::load(marks, 12 + 4 * pages + 4 * page, 4);
     let stamp = word::load(marks, 12 + 4 * page, 4);
-    !((k <= closed) & (dirty == 0)) & !(k <= stamp)
+    let closed = word::load(marks, 4, 4);
+    if closed < k {
+        return !(k <= stamp);
+    }
+    let dirty = word::load(marks, 12 + 4 * pages + 4 * page, 4);
+    !(dirty == 0) & !(k <= stamp)
 }
 
 // How many of n log rows enter, numbered from `first` on.

@@ -115,3 +115,19 @@ lent-length a k l h =
     let d : a + k - a ≡ k = omega arith in
     let g : k ≤ length (drop a l) = rw (length-drop a l) (omega arith) in
     ap (λ (n : ℕ). length (take n (drop a l))) d ∙ length-take-le k (drop a l) g
+
+-- `slide_row`: what goes by way of another list r of as many bytes is the part itself
+pub slid-row : (from to : ℕ) (l z r ys : List ℕ) → to ≤ from → from + 19 ≤ length l → length z ≡ 19
+    → r ≡ take (from + 19 - from) (drop from l) ++ drop (length (take (from + 19 - from) (drop from l))) z
+    → ys ≡ r ++ drop (length r) (take (to + 19 - to) (drop to l)) → ys ≡ part from 19 l
+slid-row from to l z r ys h g k e q =
+    let s : List ℕ = take (from + 19 - from) (drop from l) in
+    let p : List ℕ = take (to + 19 - to) (drop to l) in
+    let ls : length s ≡ 19 = lent-length from 19 l g in
+    let gt : to + 19 ≤ length l = omega arith in
+    let lp : length p ≡ 19 = lent-length to 19 l gt in
+    let lz : length z ≤ length s = omega arith in
+    let rs : r ≡ s = e ∙ ap (λ (x : List ℕ). s ++ x) (drop-of-length-le z lz) ∙ append-nil s in
+    let le : length p ≤ length r = omega (arith, ap length rs) in
+    let d : from + 19 - from ≡ 19 = omega arith in
+    q ∙ ap (λ (x : List ℕ). r ++ x) (drop-of-length-le p le) ∙ append-nil r ∙ rs ∙ ap (λ (n : ℕ). take n (drop from l)) d

@@ -4,12 +4,15 @@ use native.Mathlib.Omega.{arith}
 use mathlib.Core.Path.{_≡_, refl, sym, ap, _∙_}
 use mathlib.Core.Bool.{Bool, true, false, cond, _&&_}
 use mathlib.Core.List.{List, _∷_, _++_, append-assoc, append-nil, map}
-use lib.ListN.{length, take, drop, replicate, take-append-drop, length-drop, drop-of-length-le}
+use lib.ListN.{length, take, drop, replicate, take-append-drop, length-append, length-drop, drop-of-length-le}
 use lib.Seq.{take-take, drop-drop, length-take-le}
 use lib.Dec.{eqb}
+use borrow.Author.Tests.{eq-eqb, ne-eqb}
+use Rattle.word.specs.Word.{put}
+use Rattle.word.proofs.Laws.{length-put}
 use Rattle.record.specs.Part.{part, withPart}
 use Rattle.record.specs.Rows.{rowAt, rows, joined, table, consIf, keep}
-use Rattle.record.specs.Record.{pageOf, ownerOf, bodyOf, ownedBy, gone, numbered, numberRows}
+use Rattle.record.specs.Record.{pageOf, ownerOf, bodyOf, ownedBy, gone, entered, numbered, numberRows}
 use Rattle.record.proofs.Parts.{with-take, with-drop, with-length}
 use Rattle.table.proofs.Laws.{rows-more, rows-end, rows-start, keep-rows-more, keep-rows-end, row-length, sub-mul, joined-cons, joined-rows, length-rows, drop-rows, count-start, count-turn, count-end}
 use Rattle.table.proofs.Moves.{lent-back, lent-length}
@@ -31,9 +34,14 @@ after-more a k b l o h q =
     ap (λ (n : ℕ). drop n l) h ∙ sym (drop-drop k a l) ∙ ap (λ (x : List ℕ). drop k x) q ∙ drop-drop k a o ∙ ap (λ (n : ℕ). drop n o) (sym h)
 
 -- `enter_row`
-pub entered-bytes : (l b r s : List ℕ) → length l ≡ 19 → length b ≡ 14 → r ≡ replicate (length l) 0 → s ≡ b ++ drop (length b) r → s ≡ b ++ replicate 5 0
-entered-bytes l b r s h g p q =
-    q ∙ ap (λ (n : ℕ). b ++ drop n r) g ∙ ap (λ (x : List ℕ). b ++ drop 14 x) (p ∙ ap (λ (n : ℕ). replicate n 0) h)
+pub entered-bytes : (l b z x y s : List ℕ) (k : ℕ) → length l ≡ 19 → length b ≡ 14 → z ≡ replicate 19 0 → x ≡ b ++ drop (length b) z → y ≡ put 4 x 15 k
+    → s ≡ y ++ drop (length y) l → s ≡ entered b k
+unfolding entered
+entered-bytes l b z x y s k h g o p q e =
+    let r : y ≡ put 4 (b ++ replicate 5 0) 15 k = q ∙ ap (λ (u : List ℕ). put 4 u 15 k) (p ∙ ap (λ (n : ℕ). b ++ drop n z) g ∙ ap (λ (u : List ℕ). b ++ drop 14 u) o) in
+    let n : length y ≡ 19 = ap length r ∙ length-put 4 (b ++ replicate 5 0) 15 k ∙ length-append b (replicate 5 0) ∙ ap (λ (m : ℕ). m + 5) g in
+    let le : length l ≤ length y = omega arith in
+    e ∙ ap (λ (u : List ℕ). y ++ u) (drop-of-length-le l le) ∙ append-nil y ∙ r
 
 -- `number_rows`
 numberRows-cons : (x k : ℕ) (r : List ℕ) (rs : List (List ℕ))
@@ -226,10 +234,14 @@ log-all x n m t o l k j inv q =
       e,
     )
 
--- `is_gone`
-pub gone-page : (w : Bool) (x p q a : ℕ) (r : List ℕ) → w ≡ false → q ≡ pageOf r → a ≡ ownerOf r → eqb q p && eqb a x ≡ gone w x p r
-gone-page w x p q a r we qe ae =
-    ap (λ (z : ℕ). eqb z p && eqb a x) qe ∙ ap (λ (z : ℕ). eqb (pageOf r) p && eqb z x) ae ∙ ap (λ (z : Bool). gone z x p r) (sym we)
+-- `is_gone`: a row of another page stays, one of the page goes by its owner
+pub gone-other : (w : Bool) (x p q : ℕ) (r : List ℕ) → w ≡ false → q ≡ pageOf r → (q ≡ p → ⊥) → false ≡ gone w x p r
+gone-other w x p q r we qe ne =
+    ap (λ (z : Bool). z && eqb (ownerOf r) x) (sym (ne-eqb (pageOf r) p (λ e. ne (qe ∙ e)))) ∙ ap (λ (z : Bool). gone z x p r) (sym we)
+
+pub gone-page : (w : Bool) (x p q a : ℕ) (r : List ℕ) → w ≡ false → q ≡ pageOf r → q ≡ p → a ≡ ownerOf r → eqb a x ≡ gone w x p r
+gone-page w x p q a r we qe e ae =
+    ap (λ (z : ℕ). eqb z x) ae ∙ ap (λ (z : Bool). z && eqb (ownerOf r) x) (sym (eq-eqb (pageOf r) p (sym qe ∙ e))) ∙ ap (λ (z : Bool). gone z x p r) (sym we)
 
 -- `squeeze`: j rows are passed, of which k stay
 pub record Squeezing (b : List ℕ → Bool) (m : ℕ) (o t : List ℕ) (k j : ℕ) : Type 0 where

@@ -50,3 +50,18 @@ pub fn slide(s: &mut [u8], from: usize, to: usize, n: usize)
         i += 1;
     }
 }
+
+// An online row moved down as `slide` does. A copy stands between, so that its bytes can move as words.
+pub fn slide_row(s: &mut [u8], from: usize, to: usize)
+    requires { ⌜ (to ≤ from) × (from + 19 ≤ length (now s)) ⌝ }
+    ensures { λ r. ⌜ now (s .exit) ≡ withPart to 19 (now (s .entry)) (part from 19 (now (s .entry))) ⌝ }
+{
+    if to == from {
+        return;
+    }
+    let mut row = [0u8; 19];
+    let f = from + 19;
+    copy(&mut row, &s[from..f]);
+    let e = to + 19;
+    copy(&mut s[to..e], &row);
+}

@@ -82,14 +82,15 @@ pub fn append(
     fill_row(&mut t[a..e], page, offset, w, kind, v, owner);
 }
 
-// The bytes of a log row, under its number, as a committed row.
+// The bytes of a log row, under its number, as a committed row. It is made apart, so that its bytes can move as words.
 fn enter_row(row: &mut [u8], b: &[u8], k: LogNo)
     requires { ⌜ (length (now row) ≡ 19) × (length (now b) ≡ 14) ⌝ }
     ensures { λ r. ⌜ now (row .exit) ≡ entered (now (b .entry)) (k .0) ⌝ }
 {
-    bytes::wipe(row);
-    bytes::copy(row, b);
-    word::store(row, 15, 4, k.0);
+    let mut made = [0u8; 19];
+    bytes::copy(&mut made, b);
+    word::store(&mut made, 15, 4, k.0);
+    bytes::copy(row, &made);
 }
 
 // Row i of the log in row m, committed under the number k.
@@ -163,17 +164,19 @@ pub fn append_log(log: &mut [u8], n: usize, t: &[u8], m: usize, owner: u8) -> us
     k
 }
 
-// Whether row j is one to delete.
+// Whether row j is one to delete. Few are of the one page: the others are told by that alone.
 fn is_gone(t: &[u8], j: usize, whole: bool, owner: u8, p: PageNo) -> bool
     requires { ⌜ j * 19 + 19 ≤ length (now t) ⌝ }
     ensures { λ r. ⌜ r ≡ gone whole owner (p .0) (rowAt 19 (now (t .entry)) j) ⌝ }
 {
-    let owned = record::owner_of(t, j) == owner;
     if whole {
-        return owned;
+        return record::owner_of(t, j) == owner;
     }
     let q = record::page_of(t, 19, j);
-    (q.0 == p.0) & owned
+    if q.0 != p.0 {
+        return false;
+    }
+    record::owner_of(t, j) == owner
 }
 
 // Row j, if it stays, moved down to row k; the next row to move to.
@@ -184,7 +187,7 @@ fn keep_row(t: &mut [u8], k: usize, j: usize, whole: bool, owner: u8, p: PageNo)
     if is_gone(t, j, whole, owner, p) {
         return k;
     }
-    bytes::slide(t, j * 19, k * 19, 19);
+    bytes::slide_row(t, j * 19, k * 19);
     k + 1
 }
 

@@ -1,38 +1,23 @@
--- `compact::compact_page` meets its contract: what was read and planned is what the step says.
-use native.Mathlib.Omega.{arith}
+-- `compact::compact_page` meets its contract: the survey is of all online rows.
 use denote.Ref.{now}
 use borrow.Author.Needs.{needs}
 use Rattle.rules.specs.Lent.{lentOf}
-use Rattle.compact.proofs.Laws.{plan-there, page-there, tables-there, reads-done, writes-done, lent-done}
+use Rattle.compact.proofs.Laws.{surveyed-all}
 use Rattle.compact.proofs.compact_page.Statement.{statement}
 use Rattle.compact.proofs.compact_page.Tie as tie
 
-measure-requires : tie.Need-measure-requires
-measure-requires c κs = search needs
+load-requires : tie.Need-load-requires
+load-requires c κs = search needs
 
-plan-for-requires : tie.Need-plan-for-requires
-plan-for-requires c κs =
-    let a = c .before .before .before .before .before .before .before .before .before .before .before .args in
-    plan-there (lentOf (now (a .fixed)) (now (a .marks)) (now (a .log)) (now (a .stored)) (now (a .tables)) (now (a .online)) (now (a .pool))) (a .p .0) (c .before .before .measure .result) (c .before .before .before .before .before .before .before .before .before .before .before .pre .0) (c .before .before .before .before .before .before .before .before .before .before .before .pre .1) (c .before .before .measure .ensures)
+survey-requires : tie.Need-survey-requires
+survey-requires c κs = search needs
 
-write-page-requires : tie.Need-write-page-requires
-write-page-requires c κs =
-    let a = c .before .before .before .before .before .before .before .before .before .before .before .before .before .before .args in
-    page-there (now (a .fixed)) (now (a .marks)) (now (a .log)) (now (a .stored)) (now (a .tables)) (now (a .online)) (now (a .pool)) (a .p .0) (c .before .before .before .before .before .measure .result) (c .before .before .plan-for .result) (c .before .before .before .before .before .measure .ensures) (c .before .before .plan-for .ensures) (c .before .before .before .before .before .before .before .before .before .before .before .before .before .before .pre .0) (c .before .before .before .before .before .before .before .before .before .before .before .before .before .before .pre .1)
-
-compact-lost-requires : tie.Need-compact-lost-requires
-compact-lost-requires c κs =
-    let a = c .before .before .before .before .before .before .before .before .before .before .before .before .before .before .before .before .before .before .before .args in
-    tables-there (now (a .fixed)) (now (a .marks)) (now (a .log)) (now (a .stored)) (now (a .tables)) (now (a .online)) (now (a .pool)) (a .p .0) (c .before .before .before .before .before .before .before .before .before .before .measure .result) (c .before .before .before .before .before .before .before .plan-for .result) (c .before .before .before .before .before .before .before .before .before .before .measure .ensures) (c .before .before .before .before .before .before .before .plan-for .ensures) (c .before .before .before .before .before .before .before .before .before .before .before .before .before .before .before .before .before .before .before .pre .0) (c .before .before .before .before .before .before .before .before .before .before .before .before .before .before .before .before .before .before .before .pre .1)
-
-mul-store : tie.Need-mul-store
-mul-store c = omega (arith, c .before .before .before .before .before .before .before .before .before .before .before .before .before .before .before .before .before .before .before .before .before .before .before .before .before .before .pre .1, c .before .before .before .before .before .before .before .before .before .before .before .before .before .before .before .before .before .before .before .before .before .before .before .before .before .before .pre .0 .sized .pages)
-
-add-store : tie.Need-add-store
-add-store c = omega (arith, c .before .before .before .before .before .before .before .before .before .before .before .before .before .before .before .before .before .before .before .before .before .before .before .before .before .before .pre .1, c .before .before .before .before .before .before .before .before .before .before .before .before .before .before .before .before .before .before .before .before .before .before .before .before .before .before .pre .0 .sized .pages)
-
-store-requires : tie.Need-store-requires
-store-requires c κs = omega (arith, c .before .before .before .before .before .before .before .before .before .before .before .before .before .before .before .before .before .before .before .before .before .before .before .before .before .before .pre .1, c .before .before .before .before .before .before .before .before .before .before .before .before .before .before .before .before .before .before .before .before .before .before .before .before .before .before .pre .0 .sized .marks)
+compact-by-requires : tie.Need-compact-by-requires
+compact-by-requires c κs =
+    let s = c .before .before .before .before .before .before .before .before .before .before .before .before .before .before .before in
+    let a = s .args in
+    let v = c .before .before .before .before .survey in
+    (s .pre .0, s .pre .1, surveyed-all (a .p .0) _ (lentOf (now (a .fixed)) (now (a .marks)) (now (a .log)) (now (a .stored)) (now (a .tables)) (now (a .online)) (now (a .pool))) (v .result) (c .before .before .before .before .before .before .load .ensures .0) (v .ensures))
 
 same-length : tie.Need-same-length
 same-length c = search needs
@@ -47,29 +32,15 @@ same-length-4 : tie.Need-same-length-4
 same-length-4 c = search needs
 
 returns : tie.Need-returns
-returns c =
-    let a = c .before .before .before .before .before .before .before .before .before .before .before .before .before .before .before .before .before .before .before .before .before .before .before .before .before .before .before .before .before .args in
-    let m = c .before .before .before .before .before .before .before .before .before .before .before .before .before .before .before .before .before .before .before .before .measure in
-    let k = c .before .before .before .before .before .before .before .before .before .before .before .before .before .before .before .before .before .plan-for in (
-      reads-done (now (a .fixed)) (now (a .marks)) (now (a .log)) (now (a .stored)) (now (a .tables)) (now (a .online)) (now (a .pool)) (a .p .0) (m .result) (k .result) (m .ensures) (k .ensures),
-      (
-        writes-done (lentOf (now (a .fixed)) (now (a .marks)) (now (a .log)) (now (a .stored)) (now (a .tables)) (now (a .online)) (now (a .pool))) (a .p .0),
-        lent-done (now (a .fixed)) (now (a .marks)) (now (a .log)) (now (a .stored)) (now (a .tables)) (now (a .online)) (now (a .pool)) (a .p .0) (m .result) (k .result) (m .ensures) (k .ensures) _ _ _ _
-            (c .before .before .before .before .before .before .before .before .before .before .before .before .before .before .write-page .ensures) (c .before .before .before .before .before .before .before .before .before .compact-lost .ensures .0) (c .before .before .before .before .before .before .before .before .before .compact-lost .ensures .1) (c .before .before .store .ensures),
-      ),
-    )
+returns c = search needs
 
 pub compact-page-spec : {M : Type 1} → statement M
 compact-page-spec =
     tie.close
     (tie.spec
-    measure-requires
-    plan-for-requires
-    write-page-requires
-    compact-lost-requires
-    mul-store
-    add-store
-    store-requires
+    load-requires
+    survey-requires
+    compact-by-requires
     same-length
     same-length-2
     same-length-3

@@ -1,13 +1,25 @@
 -- `compact::compact_step` meets its contract: nothing where compact is not due, else what compact does.
 use denote.Ref.{now}
 use borrow.Author.Needs.{needs}
-use Rattle.compact.proofs.Laws.{step-not, step-is}
 use Rattle.rules.specs.Lent.{lentOf}
+use Rattle.compact.proofs.Laws.{due-read, surveyed-all, step-not, step-is}
 use Rattle.compact.proofs.compact_step.Statement.{statement}
 use Rattle.compact.proofs.compact_step.Tie as tie
 
-is-due-requires : tie.Need-is-due-requires
-is-due-requires c κs = search needs
+load-requires : tie.Need-load-requires
+load-requires c κs = search needs
+
+survey-requires : tie.Need-survey-requires
+survey-requires c κs = search needs
+
+load-requires-2 : tie.Need-load-requires-2
+load-requires-2 c κs = search needs
+
+age-requires : tie.Need-age-requires
+age-requires c κs = search needs
+
+due-by-requires : tie.Need-due-by-requires
+due-by-requires c κs = search needs
 
 same-length : tie.Need-same-length
 same-length c = search needs
@@ -18,16 +30,24 @@ same-length-2 c = search needs
 same-length-3 : tie.Need-same-length-3
 same-length-3 c = search needs
 
-same-length-4 : tie.Need-same-length-4
-same-length-4 c = search needs
-
 returns : tie.Need-returns
 returns c =
-    let a = c .before .before .before .before .before .before .before .before .before .before .before .before .before .args in
-    step-not (a .min-del) (a .max-age) (a .p .0) (lentOf (now (a .fixed)) (now (a .marks)) (now (a .log)) (now (a .stored)) (now (a .tables)) (now (a .online)) (now (a .pool))) _ (c .before .is-due .ensures) (c .if1 .taken)
+    let a = c .before .before .before .before .before .before .before .before .before .before .before .before .before .before .before .before .args in
+    let v = c .before .before .before .before .before .survey .ensures in
+    step-not (a .min-del) (a .max-age) (a .p .0) (lentOf (now (a .fixed)) (now (a .marks)) (now (a .log)) (now (a .stored)) (now (a .tables)) (now (a .online)) (now (a .pool))) _
+    (due-read (now (a .fixed)) (now (a .marks)) (now (a .log)) (now (a .stored)) (now (a .tables)) (now (a .online)) (now (a .pool)) (a .p .0) (a .min-del) (a .max-age) _ _ _ _ _ _
+    (c .before .before .before .before .before .before .before .load .ensures .0) (v .committed) (v .least) (c .before .before .before .load2 .ensures .0) (c .before .before .age .ensures) (c .before .due-by .ensures))
+    (c .if1 .taken)
 
-compact-page-requires : tie.Need-compact-page-requires
-compact-page-requires c κs = search needs
+compact-by-requires : tie.Need-compact-by-requires
+compact-by-requires c κs =
+    let s = c .before .before .before .before .before .before .before .before .before .before .before .before .before .before .before .before .before .before .before .before in
+    let a = s .args in
+    let v = c .before .before .before .before .before .before .before .before .before .survey in
+    (s .pre .0, s .pre .1, surveyed-all (a .p .0) _ (lentOf (now (a .fixed)) (now (a .marks)) (now (a .log)) (now (a .stored)) (now (a .tables)) (now (a .online)) (now (a .pool))) (v .result) (c .before .before .before .before .before .before .before .before .before .before .before .load .ensures .0) (v .ensures))
+
+same-length-4 : tie.Need-same-length-4
+same-length-4 c = search needs
 
 same-length-5 : tie.Need-same-length-5
 same-length-5 c = search needs
@@ -38,27 +58,31 @@ same-length-6 c = search needs
 same-length-7 : tie.Need-same-length-7
 same-length-7 c = search needs
 
-same-length-8 : tie.Need-same-length-8
-same-length-8 c = search needs
-
 returns-2 : tie.Need-returns-2
 returns-2 c =
-    let a = c .before .before .before .before .before .before .before .before .before .before .before .before .before .before .before .before .before .before .before .before .before .before .before .before .before .before .args in
-    step-is (a .min-del) (a .max-age) (a .p .0) _ _ (lentOf (now (a .fixed)) (now (a .marks)) (now (a .log)) (now (a .stored)) (now (a .tables)) (now (a .online)) (now (a .pool))) _ _ (c .before .before .before .before .before .before .before .before .before .before .before .before .before .before .is-due .ensures) (c .before .before .before .before .before .before .before .before .before .before .before .before .before .if1 .left) (c .before .before .before .before .before .before .before .before .compact-page .ensures)
+    let a = c .before .before .before .before .before .before .before .before .before .before .before .before .before .before .before .before .before .before .before .before .before .before .before .before .before .before .before .before .before .args in
+    let v = c .before .before .before .before .before .before .before .before .before .before .before .before .before .before .before .before .before .before .survey .ensures in
+    step-is (a .min-del) (a .max-age) (a .p .0) _ _ (lentOf (now (a .fixed)) (now (a .marks)) (now (a .log)) (now (a .stored)) (now (a .tables)) (now (a .online)) (now (a .pool))) _ _
+    (due-read (now (a .fixed)) (now (a .marks)) (now (a .log)) (now (a .stored)) (now (a .tables)) (now (a .online)) (now (a .pool)) (a .p .0) (a .min-del) (a .max-age) _ _ _ _ _ _
+    (c .before .before .before .before .before .before .before .before .before .before .before .before .before .before .before .before .before .before .before .before .load .ensures .0) (v .committed) (v .least) (c .before .before .before .before .before .before .before .before .before .before .before .before .before .before .before .before .load2 .ensures .0) (c .before .before .before .before .before .before .before .before .before .before .before .before .before .before .before .age .ensures) (c .before .before .before .before .before .before .before .before .before .before .before .before .before .before .due-by .ensures))
+    (c .before .before .before .before .before .before .before .before .before .before .before .before .before .if1 .left) (c .before .before .before .before .before .before .before .before .compact-by .ensures)
 
 pub compact-step-spec : {M : Type 1} → statement M
 compact-step-spec =
     tie.close
     (tie.spec
-    is-due-requires
+    load-requires
+    survey-requires
+    load-requires-2
+    age-requires
+    due-by-requires
     same-length
     same-length-2
     same-length-3
-    same-length-4
     returns
-    compact-page-requires
+    compact-by-requires
+    same-length-4
     same-length-5
     same-length-6
     same-length-7
-    same-length-8
     returns-2)

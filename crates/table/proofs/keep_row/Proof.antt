@@ -13,14 +13,14 @@ same-length c = search needs
 returns : tie.Need-returns
 returns c = rw (sym (c .before .is-gone .ensures) ∙ c .if1 .taken) (refl, refl)
 
-mul-slide : tie.Need-mul-slide
-mul-slide c = search needs
+mul-slide-row : tie.Need-mul-slide-row
+mul-slide-row c = search needs
 
-mul-slide-2 : tie.Need-mul-slide-2
-mul-slide-2 c = search needs
+mul-slide-row-2 : tie.Need-mul-slide-row-2
+mul-slide-row-2 c = search needs
 
-slide-requires : tie.Need-slide-requires
-slide-requires c κs = search needs
+slide-row-requires : tie.Need-slide-row-requires
+slide-row-requires c κs = search needs
 
 add-result : tie.Need-add-result
 add-result c = search needs
@@ -29,7 +29,7 @@ same-length-2 : tie.Need-same-length-2
 same-length-2 c = search needs
 
 returns-2 : tie.Need-returns-2
-returns-2 c = rw (sym (c .before .before .before .before .before .is-gone .ensures) ∙ c .before .before .before .before .if1 .left) (c .before .before .slide .ensures, refl)
+returns-2 c = rw (sym (c .before .before .before .before .before .is-gone .ensures) ∙ c .before .before .before .before .if1 .left) (c .before .before .slide-row .ensures, refl)
 
 pub keep-row-spec : {M : Type 1} → statement M
 keep-row-spec =
@@ -38,9 +38,9 @@ keep-row-spec =
     is-gone-requires
     same-length
     returns
-    mul-slide
-    mul-slide-2
-    slide-requires
+    mul-slide-row
+    mul-slide-row-2
+    slide-row-requires
     add-result
     same-length-2
     returns-2)

@@ -11,16 +11,16 @@ use Rattle.order.proofs.Order.save.Statement.{statement}
 use Rattle.order.proofs.Order.save.Tie as tie
 
 abbrev Inv-loop : tie.InvT-loop
-Inv-loop self t₀ i₀ t i = (i ≤ length t₀) × (length t ≡ length t₀) × (take i t ≡ take i (listOf self ++ replicate (length t₀) 0))
+Inv-loop t₀ used slots i₀ t i = (i ≤ length t₀) × (length t ≡ length t₀) × (take i t ≡ take i (take used slots ++ replicate (length t₀) 0))
 
 abbrev μ-loop : tie.MeasureT-loop
-μ-loop self t₀ i₀ t i = length t₀ - i
+μ-loop t₀ used slots i₀ t i = length t₀ - i
 
 loop-holds : tie.Need-loop-holds Inv-loop μ-loop
 loop-holds c = (search needs, refl, refl)
 
-at-requires : tie.Need-at-requires Inv-loop μ-loop
-at-requires c κs = search needs
+slot-requires : tie.Need-slot-requires Inv-loop μ-loop
+slot-requires c κs = search needs
 
 slice-write-t : tie.Need-slice-write-t Inv-loop μ-loop
 slice-write-t c = search needs
@@ -33,11 +33,11 @@ loop-less c = search needs
 
 loop-again : tie.Need-loop-again Inv-loop μ-loop
 loop-again c =
-    let a = c .before .before .before .before .args in
-    let o = c .before .before .loop in (
+    let a = c .before .before .before .before .before .before .args in
+    let o = c .before .before .before .loop in (
       search needs,
       search needs,
-      save-turn (listOf (a .self)) (o .t) (length (now (a .t))) (o .i) (c .at .result) (search needs) (o .inv .1) (c .at .ensures) (o .inv .2),
+      save-turn (listOf (a .self)) (o .t) (length (now (a .t))) (o .i) (c .slot .result) (search needs) (o .inv .1) (c .slot .ensures) (o .inv .2),
     )
 
 same-length : tie.Need-same-length Inv-loop μ-loop
@@ -45,7 +45,7 @@ same-length c = search needs
 
 returns : tie.Need-returns Inv-loop μ-loop
 returns c =
-    let a = c .before .before .before .args in
+    let a = c .before .before .before .before .args in
     let o = c .before .loop in
     save-done (listOf (a .self)) (o .t) (length (now (a .t))) (o .i) (search needs) (o .inv .0) (o .inv .1) (o .inv .2)
 
@@ -56,7 +56,7 @@ save-spec =
     Inv-loop
     μ-loop
     loop-holds
-    at-requires
+    slot-requires
     slice-write-t
     add-i
     loop-less
