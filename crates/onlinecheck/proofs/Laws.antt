@@ -112,17 +112,20 @@ module _ (t l : List ℕ) where
       let m : b + suc v ≡ b + 1 + v = omega arith in
       rw (e, n, m, same-step t l a b (v + w) (omega arith) (omega arith), same-step t l a b v (omega arith) (omega arith), same-join v w (a + 1) (b + 1) (omega arith) (omega arith), and-assoc)
 
-  -- the 14 bytes of a record, as words of 4, 4, 4 and 2
-  pub same-words : (a b : ℕ) (x y z u : Bool) → a + 19 ≤ length t → b + 14 ≤ length l → x ≡ same (part a 4 t) (part b 4 l) → y ≡ same (part (a + 4) 4 t) (part (b + 4) 4 l) → z ≡ same (part (a + 8) 4 t) (part (b + 8) 4 l) → u ≡ same (part (a + 12) 2 t) (part (b + 12) 2 l) → (x && y && z && u) ≡ same (take 14 (part a 19 t)) (part b 14 l)
-  same-words a b x y z u p q d e f g =
-      let n : a + 4 + 4 ≡ a + 8 = omega arith in
-      let m : b + 4 + 4 ≡ b + 8 = omega arith in
-      let k : a + 8 + 4 ≡ a + 12 = omega arith in
-      let j : b + 8 + 4 ≡ b + 12 = omega arith in
-      let s : same (part a 14 t) (part b 14 l) ≡ (same (part a 4 t) (part b 4 l) && same (part (a + 4) 10 t) (part (b + 4) 10 l)) = same-join 4 10 a b (omega arith) (omega arith) in
-      let v : same (part (a + 4) 10 t) (part (b + 4) 10 l) ≡ (same (part (a + 4) 4 t) (part (b + 4) 4 l) && same (part (a + 8) 6 t) (part (b + 8) 6 l)) = rw (n, m) at (same-join 4 6 (a + 4) (b + 4) (omega arith) (omega arith)) in
-      let w : same (part (a + 8) 6 t) (part (b + 8) 6 l) ≡ (same (part (a + 8) 4 t) (part (b + 8) 4 l) && same (part (a + 12) 2 t) (part (b + 12) 2 l)) = rw (k, j) at (same-join 4 2 (a + 8) (b + 8) (omega arith) (omega arith)) in
-      rw (take-take 14 19 (drop a t) (omega arith), s, v, w, d, e, f, g) (simp and-assoc)
+  -- the 14 bytes of a record, as its fields of 2, 2, 1, 1 and 8
+  pub same-fields : (a b : ℕ) (x y z u v : Bool) → a + 19 ≤ length t → b + 14 ≤ length l → x ≡ same (part a 2 t) (part b 2 l) → y ≡ same (part (a + 2) 2 t) (part (b + 2) 2 l) → z ≡ same (part (a + 4) 1 t) (part (b + 4) 1 l) → u ≡ same (part (a + 5) 1 t) (part (b + 5) 1 l) → v ≡ same (part (a + 6) 8 t) (part (b + 6) 8 l) → (x && y && z && u && v) ≡ same (take 14 (part a 19 t)) (part b 14 l)
+  same-fields a b x y z u v p q d e f g h =
+      let s = same-join 2 12 a b (omega arith) (omega arith) in
+      let w : same (part (a + 2) 12 t) (part (b + 2) 12 l) ≡ (same (part (a + 2) 2 t) (part (b + 2) 2 l) && same (part (a + 4) 10 t) (part (b + 4) 10 l)) = after 2 2 10 (omega arith) (omega arith) in
+      let o : same (part (a + 4) 10 t) (part (b + 4) 10 l) ≡ (same (part (a + 4) 1 t) (part (b + 4) 1 l) && same (part (a + 5) 9 t) (part (b + 5) 9 l)) = after 4 1 9 (omega arith) (omega arith) in
+      let r : same (part (a + 5) 9 t) (part (b + 5) 9 l) ≡ (same (part (a + 5) 1 t) (part (b + 5) 1 l) && same (part (a + 6) 8 t) (part (b + 6) 8 l)) = after 5 1 8 (omega arith) (omega arith) in
+      rw (take-take 14 19 (drop a t) (omega arith), s, w, o, r, d, e, f, g, h) (simp and-assoc)
+    where
+      after : (k v w : ℕ) → a + k + (v + w) ≤ length t → b + k + (v + w) ≤ length l → same (part (a + k) (v + w) t) (part (b + k) (v + w) l) ≡ (same (part (a + k) v t) (part (b + k) v l) && same (part (a + (k + v)) w t) (part (b + (k + v)) w l))
+      after k v w p q =
+          let n : a + k + v ≡ a + (k + v) = omega arith in
+          let m : b + k + v ≡ b + (k + v) = omega arith in
+          rw (n, m) at (same-join v w (a + k) (b + k) p q)
 
 pub log-free : (log : List ℕ) (first : ℕ) (r : List ℕ) (x : ℕ) → x ≡ ownerOf r → (x ≡ 0 → ⊥) → true ≡ inLog log first r
 unfolding inLog

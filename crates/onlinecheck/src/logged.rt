@@ -7,17 +7,19 @@ ghost use Rattle.record.specs.Record.{numberOf, bodyOf};
 ghost use Rattle.rules.specs.Sound.{same};
 ghost use Rattle.onlinecheck.specs.Online.{inLog};
 
-// The record of online row i is log row j, byte for byte: compared as words, since equal words have equal bytes.
+// The record of online row i is log row j, byte for byte: compared as numbers, since equal numbers have equal bytes.
+// They are the fields, which the row's other tests have read too.
 fn same_row(t: &[u8], i: usize, log: &[u8], j: usize) -> bool
     requires { ⌜ (i * 19 + 19 ≤ length (now t)) × (j * 14 + 14 ≤ length (now log)) ⌝ }
     ensures { λ r. ⌜ r ≡ same (bodyOf (rowAt 19 (now (t .entry)) i)) (rowAt 14 (now (log .entry)) j) ⌝ }
 {
     let a = i * 19;
     let b = j * 14;
-    (word::load(t, a, 4) == word::load(log, b, 4))
-        & (word::load(t, a + 4, 4) == word::load(log, b + 4, 4))
-        & (word::load(t, a + 8, 4) == word::load(log, b + 8, 4))
-        & (word::load(t, a + 12, 2) == word::load(log, b + 12, 2))
+    (word::load(t, a, 2) == word::load(log, b, 2))
+        & (word::load(t, a + 2, 2) == word::load(log, b + 2, 2))
+        & (word::load(t, a + 4, 1) == word::load(log, b + 4, 1))
+        & (word::load(t, a + 5, 1) == word::load(log, b + 5, 1))
+        & (word::load(t, a + 6, 8) == word::load(log, b + 6, 8))
 }
 
 pub fn is_logged(t: &[u8], i: usize, log: &[u8], n: usize, last: u64) -> bool

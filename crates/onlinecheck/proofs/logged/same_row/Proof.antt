@@ -1,10 +1,10 @@
--- `onlinecheck::logged::same_row` meets its contract: the words that were read are the same exactly if their bytes are.
+-- `onlinecheck::logged::same_row` meets its contract: the fields that were read are the same exactly if their bytes are.
 use borrow.Author.Needs.{needs}
 use Prim.Native.Nat.{ℕ, _+_, _*_, _<_}
 use native.Mathlib.Omega.{arith}
 use denote.Ref.{now}
 use lib.ListN.{getD}
-use Rattle.onlinecheck.proofs.Laws.{word-same, same-words}
+use Rattle.onlinecheck.proofs.Laws.{word-same, same-fields}
 use Rattle.onlinecheck.proofs.logged.same_row.Statement.{statement}
 use Rattle.onlinecheck.proofs.logged.same_row.Tie as tie
 
@@ -56,20 +56,33 @@ add-load-6 c = search needs
 load-requires-8 : tie.Need-load-requires-8
 load-requires-8 c κs = search needs
 
+add-load-7 : tie.Need-add-load-7
+add-load-7 c = search needs
+
+load-requires-9 : tie.Need-load-requires-9
+load-requires-9 c κs = search needs
+
+add-load-8 : tie.Need-add-load-8
+add-load-8 c = search needs
+
+load-requires-10 : tie.Need-load-requires-10
+load-requires-10 c κs = search needs
+
 returns : tie.Need-returns
 returns c =
-    let s = c .before .before .before .before .before .before .before .before .before .before in
+    let s = c .before .before .before .before .before .before .before .before .before .before .before .before in
     let t = now (s .args .t) in
     let l = now (s .args .log) in
     let a = s .args .i * 19 in
     let b = s .args .j * 14 in
-    let f : ((k : ℕ) → getD t k 0 < 256) = λ k. omega (arith, c .before .before .before .before .before .before .before .before .before .shared-slice-known .given k) in
-    let g : ((k : ℕ) → getD l k 0 < 256) = λ k. omega (arith, c .before .before .before .before .before .before .before .before .shared-slice-known2 .given k) in
-    same-words t l a b _ _ _ _ (s .pre .0) (s .pre .1)
-    (word-same t l f g 4 a b _ _ (omega arith) (omega arith) (c .before .before .before .before .before .before .before .load .ensures .0) (c .before .before .before .before .before .before .load2 .ensures .0))
-    (word-same t l f g 4 (a + 4) (b + 4) _ _ (omega arith) (omega arith) (c .before .before .before .before .before .load3 .ensures .0) (c .before .before .before .before .load4 .ensures .0))
-    (word-same t l f g 4 (a + 8) (b + 8) _ _ (omega arith) (omega arith) (c .before .before .before .load5 .ensures .0) (c .before .before .load6 .ensures .0))
-    (word-same t l f g 2 (a + 12) (b + 12) _ _ (omega arith) (omega arith) (c .before .load7 .ensures .0) (c .load8 .ensures .0))
+    let f : ((k : ℕ) → getD t k 0 < 256) = λ k. omega (arith, c .before .before .before .before .before .before .before .before .before .before .before .shared-slice-known .given k) in
+    let g : ((k : ℕ) → getD l k 0 < 256) = λ k. omega (arith, c .before .before .before .before .before .before .before .before .before .before .shared-slice-known2 .given k) in
+    same-fields t l a b _ _ _ _ _ (s .pre .0) (s .pre .1)
+    (word-same t l f g 2 a b _ _ (omega arith) (omega arith) (c .before .before .before .before .before .before .before .before .before .load .ensures .0) (c .before .before .before .before .before .before .before .before .load2 .ensures .0))
+    (word-same t l f g 2 (a + 2) (b + 2) _ _ (omega arith) (omega arith) (c .before .before .before .before .before .before .before .load3 .ensures .0) (c .before .before .before .before .before .before .load4 .ensures .0))
+    (word-same t l f g 1 (a + 4) (b + 4) _ _ (omega arith) (omega arith) (c .before .before .before .before .before .load5 .ensures .0) (c .before .before .before .before .load6 .ensures .0))
+    (word-same t l f g 1 (a + 5) (b + 5) _ _ (omega arith) (omega arith) (c .before .before .before .load7 .ensures .0) (c .before .before .load8 .ensures .0))
+    (word-same t l f g 8 (a + 6) (b + 6) _ _ (omega arith) (omega arith) (c .before .load9 .ensures .0) (c .load10 .ensures .0))
 
 pub same-row-spec : {M : Type 1} → statement M
 same-row-spec =
@@ -91,4 +104,8 @@ same-row-spec =
     load-requires-7
     add-load-6
     load-requires-8
+    add-load-7
+    load-requires-9
+    add-load-8
+    load-requires-10
     returns)
