@@ -1,12 +1,13 @@
--- Laws of a slice that is cleared, and of stamps written from page 0 on.
-use Prim.Native.Nat.{ℕ, suc, _+_, _-_, _≤_, _<_}
+-- Laws of a slice that is cleared, of stamps written from page 0 on, and of the parameters.
+use Prim.Native.Nat.{ℕ, zero, suc, _+_, _-_, _/_, _%_, _≤_, _<_}
 use native.Mathlib.Omega.{arith}
-use mathlib.Core.Path.{_≡_, ap, _∙_}
-use mathlib.Core.List.{List, _++_, append-nil}
-use lib.ListN.{length, set, drop, replicate}
-use lib.Seq.{drop-length}
+use mathlib.Core.Path.{_≡_, refl, sym, ap, _∙_}
+use mathlib.Core.List.{List, [], _∷_, _++_, append-nil}
+use lib.ListN.{length, set, take, drop, replicate, length-set}
+use lib.Seq.{drop-length, take-all, take-suc-set}
 use borrow.Author.Fill.{fill-more}
 use Rattle.word.specs.Word.{put}
+use Rattle.word.proofs.Laws.{length-put}
 use Rattle.rules.specs.Lent.{stampAt, lentOf}
 use Rattle.rules.specs.Steps.{stamped, formatted}
 
@@ -33,11 +34,47 @@ pub stamp-done : (n p last : ℕ) (ms h : List ℕ) → n ≤ p → stamped (n -
 unfolding stamped
 stamp-done n p last ms h q inv = let a : n - p ≡ 0 = omega arith in rw a at inv
 
--- one store after another
-pub fixed-made : (size pages frames room span : ℕ) (l₀ l₁ l₂ l₃ l₄ l₅ l₆ : List ℕ) → length l₀ ≡ 20 → l₁ ≡ replicate (length l₀) 0
-    → l₂ ≡ put 4 l₁ 0 size → l₃ ≡ put 4 l₂ 4 pages → l₄ ≡ put 4 l₃ 8 frames → l₅ ≡ put 4 l₄ 12 room → l₆ ≡ put 4 l₅ 16 span
-    → l₆ ≡ put 4 (put 4 (put 4 (put 4 (put 4 (replicate 20 0) 0 size) 4 pages) 8 frames) 12 room) 16 span
-fixed-made size pages frames room span l₀ l₁ l₂ l₃ l₄ l₅ l₆ h a b c d e f = rw (f, e, d, c, b, a, h)
+-- what is written from a place on, to lists that are alike up to it, leaves them alike up to its end
+puts-alike : (w : ℕ) (l k : List ℕ) (at v : ℕ) → at + w ≤ length l → length l ≡ length k → take at l ≡ take at k → take (at + w) (put w l at v) ≡ take (at + w) (put w k at v)
+unfolding put
+puts-alike zero l k at v h n e = let a : at + 0 ≡ at = omega arith in rw a e
+puts-alike (suc w) l k at v h n e =
+    let a : at + suc w ≡ at + 1 + w = omega arith in
+    let b : at + 1 ≡ suc at = omega arith in
+    let m : length (set l at (v % 256)) ≡ length (set k at (v % 256)) = length-set l at (v % 256) ∙ n ∙ sym (length-set k at (v % 256)) in
+    let f : take (suc at) (set l at (v % 256)) ≡ take (suc at) (set k at (v % 256)) =
+        take-suc-set l at (v % 256) (omega arith) ∙ ap (λ (x : List ℕ). x ++ (v % 256 ∷ [])) e ∙ sym (take-suc-set k at (v % 256) (omega arith))
+    in
+    rw a (puts-alike w (set l at (v % 256)) (set k at (v % 256)) (at + 1) (v / 256) (rw length-set (omega arith)) m (rw b f))
+
+-- two lists of 20 bytes, alike up to a place
+record Alike (l k : List ℕ) (n : ℕ) : Type 0 where
+  one : length l ≡ 20
+  other : length k ≡ 20
+  front : take n l ≡ take n k
+
+alike-next : {l k : List ℕ} (at v : ℕ) → Alike l k at → at + 4 ≤ 20 → Alike (put 4 l at v) (put 4 k at v) (at + 4)
+alike-next {l} {k} at v f g =
+    record {
+      one = length-put 4 l at v ∙ f .one;
+      other = length-put 4 k at v ∙ f .other;
+      front = puts-alike 4 l k at v (rw (f .one) g) (f .one ∙ sym (f .other)) (f .front);
+    }
+
+alike-whole : {l k : List ℕ} → Alike l k 20 → l ≡ k
+alike-whole {l} {k} f = sym (take-all 20 l (omega (arith, f .one))) ∙ f .front ∙ take-all 20 k (omega (arith, f .other))
+
+-- one store after another: together they leave nothing of what was there
+pub fixed-made : (size pages frames room span : ℕ) (l₀ l₁ l₂ l₃ l₄ l₅ : List ℕ) → length l₀ ≡ 20
+    → l₁ ≡ put 4 l₀ 0 size → l₂ ≡ put 4 l₁ 4 pages → l₃ ≡ put 4 l₂ 8 frames → l₄ ≡ put 4 l₃ 12 room → l₅ ≡ put 4 l₄ 16 span
+    → l₅ ≡ put 4 (put 4 (put 4 (put 4 (put 4 (replicate 20 0) 0 size) 4 pages) 8 frames) 12 room) 16 span
+fixed-made size pages frames room span l₀ l₁ l₂ l₃ l₄ l₅ h a b c d e =
+    let start : Alike l₀ (replicate 20 0) 0 = record { one = h; other = refl; front = refl } in
+    let one = alike-next 0 size start (omega arith) in
+    let two = alike-next 4 pages one (omega arith) in
+    let three = alike-next 8 frames two (omega arith) in
+    let four = alike-next 12 room three (omega arith) in
+    rw (e, d, c, b, a) (alike-whole (alike-next 16 span four (omega arith)))
 
 pub marks-made : (pages last : ℕ) (l₀ l₁ l₂ l₃ l₄ : List ℕ) → l₁ ≡ replicate (length l₀) 0 → l₂ ≡ put 4 l₁ 0 last → l₃ ≡ put 4 l₂ 4 last
     → l₄ ≡ stamped pages 0 last l₃ → l₄ ≡ stamped pages 0 last (put 4 (put 4 (replicate (length l₀) 0) 0 last) 4 last)

@@ -17,12 +17,11 @@ pub fn clear(s: &mut [u8])
     }
 }
 
-// The five parameters.
+// The five parameters: they fill it.
 fn write_fixed(fixed: &mut [u8], size: u64, pages: u64, frames: u64, room: u64, span: u64)
     requires { ⌜ length (now fixed) ≡ 20 ⌝ }
     ensures { λ r. ⌜ now (fixed .exit) ≡ put 4 (put 4 (put 4 (put 4 (put 4 (replicate 20 0) 0 size) 4 pages) 8 frames) 12 room) 16 span ⌝ }
 {
-    clear(fixed);
     word::store(fixed, 0, 4, size);
     word::store(fixed, 4, 4, pages);
     word::store(fixed, 8, 4, frames);

@@ -1,12 +1,9 @@
--- Six calls in a row: what each leaves is what the next finds.
+-- Five calls in a row: what each leaves is what the next finds.
 use borrow.Author.Needs.{needs}
 use denote.Ref.{now}
 use Rattle.format.proofs.Laws.{fixed-made}
 use Rattle.format.proofs.write_fixed.Statement.{statement}
 use Rattle.format.proofs.write_fixed.Tie as tie
-
-clear-requires : tie.Need-clear-requires
-clear-requires c κs = search needs
 
 store-requires : tie.Need-store-requires
 store-requires c κs = search needs
@@ -28,9 +25,8 @@ same-length c = search needs
 
 returns : tie.Need-returns
 returns c =
-    fixed-made _ _ _ _ _ (now (c .before .before .before .before .before .before .before .before .before .before .before .before .before .before .before .before .before .before .before .before .before .before .before .before .before .args .fixed)) _ _ _ _ _ _
-    (c .before .before .before .before .before .before .before .before .before .before .before .before .before .before .before .before .before .before .before .before .before .before .before .before .before .pre)
-    (c .before .before .before .before .before .before .before .before .before .before .before .before .before .before .before .before .before .before .before .before .before .before .clear .ensures)
+    fixed-made _ _ _ _ _ (now (c .before .before .before .before .before .before .before .before .before .before .before .before .before .before .before .before .before .before .before .before .before .args .fixed)) _ _ _ _ _
+    (c .before .before .before .before .before .before .before .before .before .before .before .before .before .before .before .before .before .before .before .before .before .pre)
     (c .before .before .before .before .before .before .before .before .before .before .before .before .before .before .before .before .before .before .store .ensures)
     (c .before .before .before .before .before .before .before .before .before .before .before .before .before .before .store2 .ensures)
     (c .before .before .before .before .before .before .before .before .before .before .store3 .ensures)
@@ -41,7 +37,6 @@ pub write-fixed-spec : {M : Type 1} → statement M
 write-fixed-spec =
     tie.close
     (tie.spec
-    clear-requires
     store-requires
     store-requires-2
     store-requires-3
