@@ -61,11 +61,10 @@ impl Maker {
         self.make(&[Call::Update { number, page, offset, length, kind: ADD.into(), value: 3 }]);
     }
 
-    /// Commits so many records, a page after the other, and leaves them online.
-    fn commit_spread(&mut self, count: u32) {
-        let pages = self.areas.sizes().pages;
+    /// Commits so many records, a page after the other of so many, and leaves them online.
+    fn commit_spread(&mut self, count: u32, pages: u32) {
         self.begin([GONE]);
-        (0..count).for_each(|i| self.record(GONE, 1 + 7 * i % (pages - 1), 0));
+        (0..count).for_each(|i| self.record(GONE, 1 + 7 * i % pages, 0));
         self.make(&[Call::Commit { number: GONE }]);
     }
 
@@ -131,7 +130,7 @@ fn each_call(sizes: Sizes) -> Vec<Situation> {
     let of_none = (sizes.online_size - 2) / 2;
     let mut base = Maker::new(sizes);
     base.fill_log(sizes.log_size - on_a_page - on_many - of_none);
-    base.commit_spread(of_none);
+    base.commit_spread(of_none, sizes.pages - 1);
     base.begin([ON_A_PAGE, ON_MANY, WITH_NONE].into_iter().chain(OTHERS));
     (0..on_a_page).for_each(|i| base.record(ON_A_PAGE, 0, FIRST_OFFSET + 8 * i));
     (0..on_many).for_each(|i| base.record(ON_MANY, 1 + i, 8 * ON_MANY));
@@ -220,14 +219,19 @@ impl Shape {
     ];
 }
 
+/// So many pages have records at each size, where rows alone should grow.
+const FEW_PAGES: u32 = 31;
+
 /// Calls on an online table of that size, full but for one row. The other tables stay: 256 pages, 16 frames, 512 log
 /// records.
 pub fn online_growth(shape: Shape, online_size: u32) -> Vec<Situation> {
     let sizes = Sizes { page_size: 4096, pages: 256, frames: 16, online_size, log_size: 512 };
     let mut base = Maker::new(sizes);
+    let mut few = base.clone();
     base.begin([WITH_NONE]);
     if shape == Shape::Committed {
-        base.commit_spread(online_size - 1);
+        base.commit_spread(online_size - 1, sizes.pages - 1);
+        few.commit_spread(online_size - 1, FEW_PAGES);
     } else {
         base.begin(1..=8);
         for i in 0..online_size - 1 {
@@ -238,6 +242,7 @@ pub fn online_growth(shape: Shape, online_size: u32) -> Vec<Situation> {
             }
         }
     }
+    let all_due = Call::Checkpoint { min_del: 1, max_age: 0 };
     // A page that no record is on, so that each shape meets the same.
     let page = base.absent();
     let in_frame = base.then(&[read(page)]);
@@ -250,7 +255,8 @@ pub fn online_growth(shape: Shape, online_size: u32) -> Vec<Situation> {
         Shape::Committed => vec![
             base.at("compact, evicted", Call::Compact { page: 1, min_del: 1, max_age: 0 }, DONE),
             base.at("close", Call::Close, DONE),
-            base.at("checkpoint, every page due", Call::Checkpoint { min_del: 1, max_age: 0 }, DONE),
+            base.at("checkpoint, every page due", all_due, DONE),
+            few.at(&format!("checkpoint, {FEW_PAGES} pages due"), all_due, DONE),
             base.at("restart", Call::Restart, DONE),
         ],
         _ => vec![
@@ -267,7 +273,7 @@ pub fn log_growth(log_size: u32) -> Vec<Situation> {
     let sizes = Sizes { page_size: 4096, pages: 256, frames: 16, online_size: 64, log_size };
     let mut base = Maker::new(sizes);
     base.fill_log(log_size / 2);
-    base.commit_spread(32);
+    base.commit_spread(32, sizes.pages - 1);
     base.fill_log(log_size - 8);
     base.begin([WITH_NONE]);
     let one = base.then(&[update(0, 0)]);
