@@ -4,19 +4,20 @@ use native.Mathlib.Omega.{arith}
 use native.Mathlib.Numerals.{add-one}
 use native.Mathlib.Nat.{mul-le-mul, div-eq-of-lt, div-lt-iff-lt-mul}
 use mathlib.Core.Path.{_≡_, refl, sym, ap, subst, _∙_}
-use mathlib.Core.Bool.{Bool, true, false, not, _&&_, _||_, and-true, and-assoc}
+use mathlib.Core.Bool.{Bool, true, false, cond, not, _&&_, _||_, and-true, and-assoc}
 use mathlib.Core.List.{List}
 use lib.ListN.{length, getD, take, drop, length-drop, drop-of-length-le}
 use lib.Seq.{drop-cons, take-all}
 use lib.Pow.{pow-pos, shr-shr}
-use lib.Dec.{eqb, leb, ltb, lit<}
-use borrow.Author.Tests.{eqb-true, leb-true, eq-eqb, ne-eqb, le-leb, lt-leb, ltb-true, ltb-false, not-true, not-false}
+use lib.Dec.{eqb, leb, ltb, lit<, leb·suc-suc}
+use borrow.Author.Tests.{eqb-true, leb-true, eq-eqb, ne-eqb, le-leb, lt-leb, lt-ltb, le-ltb, ltb-true, ltb-false, not-true, not-false}
 use Rattle.record.specs.Rows.{rowAt, rows}
 use Rattle.record.specs.Record.{pageOf, offsetOf, lengthOf, kindOf, valueOf, isLength, wellFormed}
 use Rattle.word.specs.Word.{num}
 use Rattle.rules.specs.Lent.{Lent, sizeOf, pagesOf, framesOf, roomOf, spanOf, lastOf, loggedOf, logOf, stampAt, dirtyAt}
 use Rattle.rules.specs.Sound.{every, upTo, zeros, between, isPageSize, inRange, exactLengths, s1-parameters, s2-lengths, s3-logged, s16-logged, s18-first, s15-stamps, s17-s19-dirty, s7-log-records, s14-log-zero, soundDurable}
 use Rattle.rules.specs.Shape.{Sized}
+use Rattle.durable.specs.Limits.{placesOf, mostValues}
 use Rattle.durable.specs.Marks.{isRecord, soundCounts, stampWithin, soundStamps, soundDirty, dirtyWithin, soundDirties, soundMarks}
 use Rattle.durable.specs.Ranges.{Ranged}
 
@@ -123,7 +124,7 @@ at-length P w h = length-cases P w _ _ _ _ refl refl refl refl h
 pub length-small : (w : ℕ) → isLength w ≡ true → w < 256
 length-small w h = at-length (λ (x : ℕ). x < 256) w h (lit< tt) (lit< tt) (lit< tt) (lit< tt)
 
--- `below_power`: no bit from 8 w on
+-- `value_fits`: no bit from 8 w on
 quotient-zero : (v m : ℕ) → 0 < m → eqb (v / m) 0 ≡ ltb v m
 quotient-zero v m p = pick (ltb v m) refl
   where
@@ -138,15 +139,76 @@ pub power-test : (w v : ℕ) → isLength w ≡ true → eqb (v / 2 ^ ((8 * w + 
 power-test w v h =
     at-length (λ (x : ℕ). eqb (v / 2 ^ ((8 * x + 63) % 64) / 2 ^ 1) 0 ≡ ltb v (256 ^ x)) w h (shift-zero v 7) (shift-zero v 15) (shift-zero v 31) (shift-zero v 63)
 
--- `is_record`: what was found of the value counts where the length is one
-last-guarded : (p l o k v r : Bool) → (l ≡ true → r ≡ v) → (p && l && o && k && r) ≡ (p && l && o && k && v)
-last-guarded true true o k v r e = rw (e refl)
-last-guarded true false o k v r e = refl
-last-guarded false l o k v r e = refl
+-- the tables by length: at a length the places of a change and the greatest value, at another number up to 8 no place
+places-at : (size w : ℕ) → w ≤ 8 → getD (placesOf size) w 0 ≡ cond (isLength w) (size + 1 - w) 0
+unfolding placesOf isLength
+places-at size zero h = refl
+places-at size (suc zero) h = omega arith
+places-at size (suc (suc zero)) h = omega arith
+places-at size (suc (suc (suc zero))) h = refl
+places-at size (suc (suc (suc (suc zero)))) h = omega arith
+places-at size (suc (suc (suc (suc (suc zero))))) h = refl
+places-at size (suc (suc (suc (suc (suc (suc zero)))))) h = refl
+places-at size (suc (suc (suc (suc (suc (suc (suc zero))))))) h = refl
+places-at size (suc (suc (suc (suc (suc (suc (suc (suc zero)))))))) h = omega arith
+places-at size (suc (suc (suc (suc (suc (suc (suc (suc (suc w))))))))) h = absurd (omega arith)
 
-pub record-tests : (size pages page offset w kind v : ℕ) (l r : Bool) → l ≡ isLength w → (isLength w ≡ true → r ≡ ltb v (256 ^ w)) → (ltb page pages && l && leb (offset + w) size && leb kind 1 && r) ≡ isRecord size pages page offset w kind v
-unfolding isRecord
-record-tests size pages page offset w kind v l r e f = rw e (last-guarded (ltb page pages) (isLength w) (leb (offset + w) size) (leb kind 1) (ltb v (256 ^ w)) r f)
+most-at : (w : ℕ) → isLength w ≡ true → suc (getD mostValues w 0) ≡ 256 ^ w
+unfolding mostValues
+most-at w h = at-length (λ (x : ℕ). suc (getD mostValues x 0) ≡ 256 ^ x) w h refl refl refl refl
+
+-- an offset is one of the places where the length is one and the change fits the page
+place-test : (size offset w : ℕ) → ltb offset (size + 1 - w) ≡ leb (offset + w) size
+place-test size offset w = pick (ltb offset (size + 1 - w)) refl
+  where
+    pick : (b : Bool) → ltb offset (size + 1 - w) ≡ b → b ≡ leb (offset + w) size
+    pick true h = sym (le-leb (offset + w) size (omega (arith, ltb-true offset (size + 1 - w) h)))
+    pick false h = sym (lt-leb (offset + w) size (omega (arith, ltb-false offset (size + 1 - w) h)))
+
+guarded-place : (size offset w : ℕ) (l : Bool) → ltb offset (cond l (size + 1 - w) 0) ≡ (l && leb (offset + w) size)
+guarded-place size offset w true = place-test size offset w
+guarded-place size offset w false = le-ltb offset 0 (omega arith)
+
+places-test : (size offset w : ℕ) → w ≤ 8 → ltb offset (getD (placesOf size) w 0) ≡ (isLength w && leb (offset + w) size)
+places-test size offset w h = ap (ltb offset) (places-at size w h) ∙ guarded-place size offset w (isLength w)
+
+most-test : (w v : ℕ) → isLength w ≡ true → leb v (getD mostValues w 0) ≡ ltb v (256 ^ w)
+most-test w v h = sym (leb·suc-suc v (getD mostValues w 0)) ∙ ap (ltb v) (most-at w h)
+
+long-length : (w : ℕ) → 8 < w → isLength w ≡ false
+unfolding isLength
+long-length w h = rw (ne-eqb w 1 (λ e. omega arith), ne-eqb w 2 (λ e. omega arith), ne-eqb w 4 (λ e. omega arith), ne-eqb w 8 (λ e. omega arith))
+
+-- `is_record`: each way out is the first test that fails
+module _ (size pages page offset w kind v : ℕ) where
+  pub record-page : pages ≤ page → false ≡ isRecord size pages page offset w kind v
+  unfolding isRecord
+  record-page h = rw (le-ltb page pages h)
+
+  module _ (paged : page < pages) where
+    pub record-long : 8 < w → false ≡ isRecord size pages page offset w kind v
+    unfolding isRecord
+    record-long h = rw (lt-ltb page pages paged, long-length w h)
+
+    module _ {places : List ℕ} (made : places ≡ placesOf size) (short : w ≤ 8) where
+      entry-test : ltb offset (getD places w 0) ≡ (isLength w && leb (offset + w) size)
+      entry-test = rw made (places-test size offset w short)
+
+      pub record-place : getD places w 0 ≤ offset → false ≡ isRecord size pages page offset w kind v
+      unfolding isRecord
+      record-place h = rw (lt-ltb page pages paged, sym entry-test ∙ le-ltb offset (getD places w 0) h)
+
+      module _ (placed : offset < getD places w 0) where
+        fits : (isLength w && leb (offset + w) size) ≡ true
+        fits = sym entry-test ∙ lt-ltb offset (getD places w 0) placed
+
+        pub record-kind : 1 < kind → false ≡ isRecord size pages page offset w kind v
+        unfolding isRecord
+        record-kind h = rw (lt-ltb page pages paged, fits, lt-leb kind 1 h)
+
+        pub record-value : {most : List ℕ} → most ≡ mostValues → kind ≤ 1 → leb v (getD most w 0) ≡ isRecord size pages page offset w kind v
+        unfolding isRecord
+        record-value e h = rw (e, lt-ltb page pages paged, fits, le-leb kind 1 h) (most-test w v (and-two (isLength w) (leb (offset + w) size) fits .0))
 
 -- `well_formed`: the fields are those of a row
 pub record-fields : (size pages page offset w kind v : ℕ) (r : List ℕ) (x : Bool) → page ≡ pageOf r → offset ≡ offsetOf r → w ≡ lengthOf r → kind ≡ kindOf r → v ≡ valueOf r → x ≡ isRecord size pages page offset w kind v → x ≡ wellFormed size pages r

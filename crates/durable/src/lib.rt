@@ -11,6 +11,7 @@ ghost use Rattle.record.specs.Rows.{rowAt, rows};
 ghost use Rattle.record.specs.Record.{isLength, wellFormed};
 ghost use Rattle.rules.specs.Lent.{lentOf};
 ghost use Rattle.rules.specs.Sound.{every, upTo, zeros, isPageSize, inRange, exactLengths, soundDurable};
+ghost use Rattle.durable.specs.Limits.{placesOf, mostValues};
 ghost use Rattle.durable.specs.Marks.{isRecord, soundCounts, stampWithin, soundStamps, soundDirty, soundDirties, soundMarks};
 use number::LogNo;
 use number::PageNo;
@@ -35,25 +36,32 @@ pub fn is_length(w: usize) -> bool
     (w == 1) | (w == 2) | (w == 4) | (w == 8)
 }
 
-// A value is below 256 to the power w, where w is a length: its bits from 8 w on are zero, shifted twice since 64 at once is too far.
-// Lengths differ from row to row, so that a branch on them would be guessed wrong.
-fn below_power(w: usize, v: u64) -> bool
-    requires { ⌜ w < 256 ⌝ }
-    ensures { λ r. ⌜ (isLength w ≡ true → r ≡ ltb v (256 ^ w)) ⌝ }
+// A value is below 256 to the power of its length: its bits from 8 w on are zero, shifted twice since 64 at once is too far.
+pub fn value_fits(w: usize, v: u64) -> bool
+    requires { ⌜ isLength w ≡ true ⌝ }
+    ensures { λ r. ⌜ r ≡ ltb v (256 ^ w) ⌝ }
 {
     let most = (8 * w + 63) % 64;
     (v >> most) >> 1 == 0
 }
 
-// A value is below 256 to the power of its length.
-pub fn value_fits(w: usize, v: u64) -> bool
-    requires { ⌜ isLength w ≡ true ⌝ }
-    ensures { λ r. ⌜ r ≡ ltb v (256 ^ w) ⌝ }
+// How many offsets a change has on a page, by its length; none where that is no length.
+pub fn places_of(size: usize) -> [usize; 9]
+    requires { ⌜ 8 ≤ size ⌝ }
+    ensures { λ r. ⌜ r ≡ placesOf size ⌝ }
 {
-    below_power(w, v)
+    [0, size, size - 1, 0, size - 3, 0, 0, 0, size - 7]
 }
 
-// The fields of a record are in their ranges.
+// The greatest value by length.
+pub fn most_values() -> [u64; 9]
+    ensures { λ r. ⌜ r ≡ mostValues ⌝ }
+{
+    [0, 255, 65535, 0, 4294967295, 0, 0, 0, 18446744073709551615]
+}
+
+// The fields of a record are in their ranges, by the tables of this page size. Sound rows pass every test, so that each branch is foretold;
+// lengths differ from row to row, so that what depends on them is looked up.
 fn is_record(
     page: PageNo,
     offset: usize,
@@ -62,16 +70,38 @@ fn is_record(
     v: u64,
     size: usize,
     pages: usize,
+    places: &[usize; 9],
+    most: &[u64; 9],
 ) -> bool
-    requires { ⌜ (offset < 65536) × (w < 256) ⌝ }
+    requires { ⌜ (now places ≡ placesOf size) × (now most ≡ mostValues) ⌝ }
     ensures { λ r. ⌜ r ≡ isRecord size pages (page .0) offset w kind v ⌝ }
 {
-    (page.0 < pages) & is_length(w) & (offset + w <= size) & (kind <= 1) & below_power(w, v)
+    if pages <= page.0 {
+        return false;
+    }
+    if 8 < w {
+        return false;
+    }
+    if places[w] <= offset {
+        return false;
+    }
+    if 1 < kind {
+        return false;
+    }
+    v <= most[w]
 }
 
 // Row i of a table whose rows have w bytes is a record.
-pub fn well_formed(t: &[u8], w: usize, i: usize, size: usize, pages: usize) -> bool
-    requires { ⌜ (14 ≤ w) × (i * w + w ≤ length (now t)) ⌝ }
+pub fn well_formed(
+    t: &[u8],
+    w: usize,
+    i: usize,
+    size: usize,
+    pages: usize,
+    places: &[usize; 9],
+    most: &[u64; 9],
+) -> bool
+    requires { ⌜ (14 ≤ w) × (i * w + w ≤ length (now t)) × (now places ≡ placesOf size) × (now most ≡ mostValues) ⌝ }
     ensures { λ r. ⌜ r ≡ wellFormed size pages (rowAt w (now (t .entry)) i) ⌝ }
 {
     let page = record::page_of(t, w, i);
@@ -79,17 +109,19 @@ pub fn well_formed(t: &[u8], w: usize, i: usize, size: usize, pages: usize) -> b
     let length = record::length_of(t, w, i);
     let kind = record::kind_of(t, w, i);
     let v = record::value_of(t, w, i);
-    is_record(page, offset, length, kind, v, size, pages)
+    is_record(page, offset, length, kind, v, size, pages, places, most)
 }
 
 // The first n log rows are records.
 fn log_records(log: &[u8], n: usize, size: usize, pages: usize) -> bool
-    requires { ⌜ n * 14 ≤ length (now log) ⌝ }
+    requires { ⌜ (n * 14 ≤ length (now log)) × (8 ≤ size) ⌝ }
     ensures { λ r. ⌜ r ≡ every (wellFormed size pages) (rows 14 n (now (log .entry)) 0) ⌝ }
 {
+    let places = places_of(size);
+    let most = most_values();
     let mut i = 0;
     while i < n {
-        if !well_formed(log, 14, i, size, pages) {
+        if !well_formed(log, 14, i, size, pages, &places, &most) {
             return false;
         }
         i += 1;
@@ -223,7 +255,7 @@ pub fn params_of(fixed: &[u8]) -> Params
 
 // The log: n rows that are records, and zeros behind them.
 fn sound_log(log: &[u8], n: usize, size: usize, pages: usize) -> bool
-    requires { ⌜ n * 14 ≤ length (now log) ⌝ }
+    requires { ⌜ (n * 14 ≤ length (now log)) × (8 ≤ size) ⌝ }
     ensures { λ r. ⌜ r ≡ (every (wellFormed size pages) (rows 14 n (now (log .entry)) 0) && zeros (drop (n * 14) (now (log .entry)))) ⌝ }
 {
     let end = n * 14;
@@ -232,7 +264,7 @@ fn sound_log(log: &[u8], n: usize, size: usize, pages: usize) -> bool
 
 // The marks and the log, once parameters and lengths are right.
 fn sound_marks(marks: &[u8], log: &[u8], size: usize, pages: usize, span: u64) -> bool
-    requires { ⌜ (length (now marks) ≡ 12 + 8 * pages) × (length (now log) ≡ 14 * span) ⌝ }
+    requires { ⌜ (length (now marks) ≡ 12 + 8 * pages) × (length (now log) ≡ 14 * span) × (8 ≤ size) ⌝ }
     ensures { λ r. ⌜ r ≡ soundMarks (now (marks .entry)) (now (log .entry)) size pages span ⌝ }
 {
     let last = LogNo(word::load(marks, 0, 4));

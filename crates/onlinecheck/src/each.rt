@@ -5,11 +5,13 @@ ghost use Prim.Native.Nat.{_+_, _*_, _-_, _≤_, _<_};
 ghost use lib.ListN.{length};
 ghost use Rattle.record.specs.Rows.{rowAt, rows};
 ghost use Rattle.rules.specs.Sound.{every};
+ghost use Rattle.durable.specs.Limits.{placesOf, mostValues};
 ghost use Rattle.onlinecheck.specs.Online.{rowTest};
 use super::logged;
 use super::owned;
 use super::stamped;
 
+// `places` and `most` are the tables by length of this page size.
 fn is_sound(
     t: &[u8],
     i: usize,
@@ -20,11 +22,13 @@ fn is_sound(
     size: usize,
     pages: usize,
     last: u64,
+    places: &[usize; 9],
+    most: &[u64; 9],
 ) -> bool
-    requires { ⌜ (i * 19 + 19 ≤ length (now t)) × (n * 14 ≤ length (now log)) × (n ≤ last) × (last < 4294967296) × (length (now marks) ≡ 12 + 8 * pages) × (35 ≤ length (now tables)) ⌝ }
+    requires { ⌜ (i * 19 + 19 ≤ length (now t)) × (n * 14 ≤ length (now log)) × (n ≤ last) × (last < 4294967296) × (length (now marks) ≡ 12 + 8 * pages) × (35 ≤ length (now tables)) × (now places ≡ placesOf size) × (now most ≡ mostValues) ⌝ }
     ensures { λ r. ⌜ r ≡ rowTest (now (tables .entry)) (now (log .entry)) (now (marks .entry)) size pages last (last - n + 1) (rowAt 19 (now (t .entry)) i) ⌝ }
 {
-    if !durable::well_formed(t, 19, i, size, pages) {
+    if !durable::well_formed(t, 19, i, size, pages, places, most) {
         return false;
     }
     if !owned::is_owned(t, i, tables, last) {
@@ -47,12 +51,26 @@ pub fn all_sound(
     pages: usize,
     last: u64,
 ) -> bool
-    requires { ⌜ (m * 19 ≤ length (now t)) × (n * 14 ≤ length (now log)) × (n ≤ last) × (last < 4294967296) × (length (now marks) ≡ 12 + 8 * pages) × (35 ≤ length (now tables)) ⌝ }
+    requires { ⌜ (m * 19 ≤ length (now t)) × (n * 14 ≤ length (now log)) × (n ≤ last) × (last < 4294967296) × (length (now marks) ≡ 12 + 8 * pages) × (35 ≤ length (now tables)) × (8 ≤ size) ⌝ }
     ensures { λ r. ⌜ r ≡ every (rowTest (now (tables .entry)) (now (log .entry)) (now (marks .entry)) size pages last (last - n + 1)) (rows 19 m (now (t .entry)) 0) ⌝ }
 {
+    let places = durable::places_of(size);
+    let most = durable::most_values();
     let mut i = 0;
     while i < m {
-        if !is_sound(t, i, log, n, marks, tables, size, pages, last) {
+        if !is_sound(
+            t,
+            i,
+            log,
+            n,
+            marks,
+            tables,
+            size,
+            pages,
+            last,
+            &places,
+            &most,
+        ) {
             return false;
         }
         i += 1;

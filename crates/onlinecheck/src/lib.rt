@@ -34,7 +34,7 @@ fn sound_rows(
     pages: usize,
     last: u64,
 ) -> bool
-    requires { ⌜ (m * 19 ≤ length (now online)) × (n * 14 ≤ length (now log)) × (n ≤ last) × (last < 4294967296) × (length (now marks) ≡ 12 + 8 * pages) × (35 ≤ length (now tables)) ⌝ }
+    requires { ⌜ (m * 19 ≤ length (now online)) × (n * 14 ≤ length (now log)) × (n ≤ last) × (last < 4294967296) × (length (now marks) ≡ 12 + 8 * pages) × (35 ≤ length (now tables)) × (8 ≤ size) ⌝ }
     ensures { λ r. ⌜ r ≡ (every (wellFormed size pages) (rows 19 m (now (online .entry)) 0) && every (owned (now (tables .entry)) last) (rows 19 m (now (online .entry)) 0) && zeros (drop (m * 19) (now (online .entry))) && every (inLog (now (log .entry)) (last - n + 1)) (rows 19 m (now (online .entry)) 0) && every (aboveStamp (now (marks .entry))) (rows 19 m (now (online .entry)) 0)) ⌝ }
 {
     if !each::all_sound(online, m, log, n, marks, tables, size, pages, last) {
@@ -77,7 +77,7 @@ pub fn sound_online(
     frames: usize,
     last: u64,
 ) -> bool
-    requires { ⌜ (m * 19 ≤ length (now online)) × (n * 14 ≤ length (now log)) × (n ≤ last) × (last < 4294967296) × (length (now marks) ≡ 12 + 8 * pages) × (length (now tables) ≡ 35 + frames + pages) × (pages ≤ 1024) × (frames ≤ 64) × (size ≤ 4096) × (m ≤ 512) × (n ≤ 2048) ⌝ }
+    requires { ⌜ (m * 19 ≤ length (now online)) × (n * 14 ≤ length (now log)) × (n ≤ last) × (last < 4294967296) × (length (now marks) ≡ 12 + 8 * pages) × (length (now tables) ≡ 35 + frames + pages) × (pages ≤ 1024) × (frames ≤ 64) × (size ≤ 4096) × (m ≤ 512) × (n ≤ 2048) × (8 ≤ size) ⌝ }
     ensures { λ r. ⌜ r ≡ onlineTest (now (online .entry)) m (now (log .entry)) n (now (marks .entry)) (now (tables .entry)) size pages frames last ⌝ }
 {
     if !sound_rows(online, m, log, n, marks, tables, size, pages, last) {

@@ -22,7 +22,7 @@ fn lost_at(
     room: usize,
     span: usize,
 ) -> bool
-    requires { ⌜ (size ≤ 4096) × (pages ≤ 1024) × (frames ≤ 64) × (room ≤ 512) × (span ≤ 2048) × (length (now marks) ≡ 12 + 8 * pages) × (length (now log) ≡ 14 * span) × (length (now tables) ≡ 35 + frames + pages) × (length (now online) ≡ 19 * room) × (num 4 (now marks) 8 ≤ span) × (num 4 (now marks) 8 ≤ num 4 (now marks) 0) ⌝ }
+    requires { ⌜ (size ≤ 4096) × (pages ≤ 1024) × (frames ≤ 64) × (room ≤ 512) × (span ≤ 2048) × (length (now marks) ≡ 12 + 8 * pages) × (length (now log) ≡ 14 * span) × (length (now tables) ≡ 35 + frames + pages) × (length (now online) ≡ 19 * room) × (num 4 (now marks) 8 ≤ span) × (num 4 (now marks) 8 ≤ num 4 (now marks) 0) × (8 ≤ size) ⌝ }
     ensures { λ r. ⌜ r ≡ (tablesTest (now (tables .entry)) pages frames room && onlineTest (now (online .entry)) (num 2 (now (tables .entry)) 0) (now (log .entry)) (num 4 (now (marks .entry)) 8) (now (marks .entry)) (now (tables .entry)) size pages frames (num 4 (now (marks .entry)) 0)) ⌝ }
 {
     if !pagetable::sound_tables(tables, pages, frames, room) {

@@ -11,23 +11,29 @@ use Rattle.durable.proofs.log_records.Statement.{statement}
 use Rattle.durable.proofs.log_records.Tie as tie
 
 abbrev Inv-loop : tie.InvT-loop
-Inv-loop log n size pages i₀ i = (i ≤ n) × (every (wellFormed size pages) (rows 14 (n - i) log i) ≡ every (wellFormed size pages) (rows 14 n log 0))
+Inv-loop log n size pages places most i₀ i = (i ≤ n) × (every (wellFormed size pages) (rows 14 (n - i) log i) ≡ every (wellFormed size pages) (rows 14 n log 0))
 
 abbrev μ-loop : tie.MeasureT-loop
-μ-loop log n size pages i₀ i = n - i
+μ-loop log n size pages places most i₀ i = n - i
+
+places-of-requires : tie.Need-places-of-requires Inv-loop μ-loop
+places-of-requires c κs = c .before .pre .1
+
+most-values-requires : tie.Need-most-values-requires Inv-loop μ-loop
+most-values-requires c κs = search needs
 
 loop-holds : tie.Need-loop-holds Inv-loop μ-loop
 loop-holds c =
-    let a = c .before .args in
+    let a = c .before .before .before .args in
     (search needs, rows-none (wellFormed (a .size) (a .pages)) 14 (now (a .log)) (a .n))
 
 well-formed-requires : tie.Need-well-formed-requires Inv-loop μ-loop
-well-formed-requires c κs = search needs
+well-formed-requires c κs = (search needs, search needs, c .before .before .before .before .before .places-of .ensures, c .before .before .before .before .most-values .ensures)
 
 returns : tie.Need-returns Inv-loop μ-loop
 returns c =
-    let a = c .before .before .before .before .before .args in
-    rows-stop (wellFormed (a .size) (a .pages)) 14 (now (a .log)) (a .n) (c .before .before .before .loop .i) _ (c .before .before .loop-test .taken) (c .before .well-formed .ensures) (c .if1 .taken) (c .before .before .before .loop .inv .1)
+    let a = c .before .before .before .before .before .before .before .before .before .args in
+    rows-stop (wellFormed (a .size) (a .pages)) 14 (now (a .log)) (a .n) (c .before .before .before .before .before .loop .i) _ (c .before .before .before .before .loop-test .taken) (c .before .well-formed .ensures) (c .if1 .taken) (c .before .before .before .before .before .loop .inv .1)
 
 add-i : tie.Need-add-i Inv-loop μ-loop
 add-i c = search needs
@@ -37,12 +43,12 @@ loop-less c = search needs
 
 loop-again : tie.Need-loop-again Inv-loop μ-loop
 loop-again c =
-    let a = c .before .before .before .before .before .args in
-    (search needs, rows-turn (wellFormed (a .size) (a .pages)) 14 (now (a .log)) (a .n) (c .before .before .before .loop .i) _ (c .before .before .loop-test .taken) (c .before .well-formed .ensures) (c .if1 .left) (c .before .before .before .loop .inv .1))
+    let a = c .before .before .before .before .before .before .before .before .before .args in
+    (search needs, rows-turn (wellFormed (a .size) (a .pages)) 14 (now (a .log)) (a .n) (c .before .before .before .before .before .loop .i) _ (c .before .before .before .before .loop-test .taken) (c .before .well-formed .ensures) (c .if1 .left) (c .before .before .before .before .before .loop .inv .1))
 
 returns-2 : tie.Need-returns-2 Inv-loop μ-loop
 returns-2 c =
-    let a = c .before .before .before .args in
+    let a = c .before .before .before .before .before .args in
     rows-done (wellFormed (a .size) (a .pages)) 14 (now (a .log)) (a .n) (c .before .loop .i) _ (c .loop-test .left) (c .before .loop .inv .1)
 
 pub log-records-spec : {M : Type 1} → statement M
@@ -51,6 +57,8 @@ log-records-spec =
     (tie.spec
     Inv-loop
     μ-loop
+    places-of-requires
+    most-values-requires
     loop-holds
     well-formed-requires
     returns

@@ -1,8 +1,11 @@
 -- `durable::sound_durable` meets its contract: each way out is the first clause that fails, and the last call decides the rest.
 use borrow.Author.Needs.{needs}
+use native.Mathlib.Nat.{le-trans}
+use lib.Dec.{lit≤}
 use denote.Ref.{now}
 use Rattle.rules.specs.Lent.{lentOf}
-use Rattle.durable.proofs.Laws.{passed, lengths-marks, durable-fixed, durable-range, durable-lengths, durable-marks}
+use Rattle.rules.specs.Sound.{inRange}
+use Rattle.durable.proofs.Laws.{passed, ranged, lengths-marks, durable-fixed, durable-range, durable-lengths, durable-marks}
 use Rattle.durable.proofs.sound_durable.Statement.{statement}
 use Rattle.durable.proofs.sound_durable.Tie as tie
 
@@ -45,8 +48,9 @@ sound-marks-requires c κs =
     let a = c .before .before .before .before .before .before .before .before .before .before .before .before .before .args in
     let s = lentOf (now (a .fixed)) (now (a .marks)) (now (a .log)) (now (a .stored)) (now (a .tables)) (now (a .online)) (now (a .pool)) in
     let p = c .before .before .before .before .params-of .result in
-    lengths-marks s (p .size) (p .pages) (p .frames) (p .room) (p .span)
-    (c .before .exact-lengths .ensures (now (a .fixed))) (c .if3 .left)
+    let l = lengths-marks s (p .size) (p .pages) (p .frames) (p .room) (p .span) (c .before .exact-lengths .ensures (now (a .fixed))) (c .if3 .left) in
+    let r = ranged (p .size) (p .pages) (p .frames) (p .room) (p .span) (passed {b = inRange (p .size) (p .pages) (p .frames) (p .room) (p .span)} (c .before .before .before .in-range .ensures) (c .before .before .if2 .left)) in
+    (l .0, l .1, le-trans (lit≤ tt) (r .size-least))
 
 returns-4 : tie.Need-returns-4
 returns-4 c =

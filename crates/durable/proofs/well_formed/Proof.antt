@@ -22,7 +22,7 @@ value-of-requires : tie.Need-value-of-requires
 value-of-requires c κs = search needs
 
 is-record-requires : tie.Need-is-record-requires
-is-record-requires c κs = search needs
+is-record-requires c κs = (c .before .before .before .before .before .before .pre .2, c .before .before .before .before .before .before .pre .3)
 
 returns : tie.Need-returns
 returns c =

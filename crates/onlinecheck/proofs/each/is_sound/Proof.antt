@@ -10,7 +10,7 @@ use Rattle.onlinecheck.proofs.each.is_sound.Statement.{statement}
 use Rattle.onlinecheck.proofs.each.is_sound.Tie as tie
 
 well-formed-requires : tie.Need-well-formed-requires
-well-formed-requires c κs = search needs
+well-formed-requires c κs = (search needs, search needs, c .before .before .before .before .pre .6, c .before .before .before .before .pre .7)
 
 returns : tie.Need-returns
 returns c = rw (failed (c .before .well-formed .ensures) (c .if1 .taken))
