@@ -11,8 +11,10 @@ use lib.Dec.{eqb, leb}
 use borrow.Author.Tests.{leb-true, leb-false, le-leb, lt-leb}
 use Rattle.word.specs.Word.{num, put}
 use Rattle.word.proofs.Laws.{length-put}
+use Rattle.word.proofs.Tests.{and-both}
 use Rattle.record.specs.Rows.{rowAt, rows, keep, consIf}
 use Rattle.record.specs.Record.{pageOf, offsetOf, lengthOf, kindOf, valueOf, ownerOf, changed, change, apply, applied, chosen}
+use Rattle.record.proofs.Laws.{either-length}
 
 -- a remainder by a power of 256: its lowest byte, and what is above it
 pow-pos : (k : ℕ) → 0 < 256 ^ k
@@ -45,13 +47,9 @@ pub put-wrap : (w : ℕ) (l : List ℕ) (at x : ℕ) → w ≤ 8 → put w l at 
 put-wrap w l at x h = put-below w 8 l at x h ∙ sym (put-mod w l at x)
 
 -- a page keeps its length
-length-pick : (b : Bool) (x g : List ℕ) → length x ≡ length g → length (cond b x g) ≡ length g
-length-pick true x g h = h
-length-pick false x g h = refl
-
 pub length-change : (offset w kind v : ℕ) (g : List ℕ) → length (change offset w kind v g) ≡ length g
 unfolding change
-length-change offset w kind v g = length-pick (leb (offset + w) (length g) && leb w 8) _ g (length-put w g offset (changed kind w (num w g offset) v))
+length-change offset w kind v g = either-length (leb (offset + w) (length g) && leb w 8) (length g) _ g (length-put w g offset (changed kind w (num w g offset) v)) refl
 
 pub length-apply : (r g : List ℕ) → length (apply r g) ≡ length g
 unfolding apply
@@ -81,10 +79,6 @@ room-left n offset w h k = go (leb offset (n - w)) refl
         e ∙ room-past n offset w f
 
 -- `write_change`: a change that fits, and one that does not
-and-both : (a b : Bool) → (a && b) ≡ true → (a ≡ true) × (b ≡ true)
-and-both true b h = (refl, h)
-and-both false b h = let z : _≡_ {A = ℕ} 0 1 = cc in absurd (omega arith)
-
 pub room-both : (n offset w : ℕ) → (leb (offset + w) n && leb w 8) ≡ true → (w ≤ 8) × (offset + w ≤ n)
 room-both n offset w h =
     let e = and-both (leb (offset + w) n) (leb w 8) h in

@@ -12,7 +12,7 @@ use borrow.Author.Tests.{eq-eqb, ne-eqb}
 use Rattle.word.specs.Word.{num}
 use Rattle.record.specs.Rows.{rowAt, rows, consIf, keep, any}
 use Rattle.record.specs.Record.{pageOf, ownerOf, committed, onPage, committedOn}
-use Rattle.table.proofs.Laws.{rows-start, keep-rows-more, keep-rows-end}
+use Rattle.table.proofs.Laws.{each-start, each-turn, each-end}
 use Rattle.rules.specs.Lent.{Lent, pagesOf, lastOf, loggedOf, countOf, onlineOf}
 use Rattle.rules.specs.Shape.{Shaped}
 use Rattle.rules.specs.Steps.{due, foldable, fromFrame, compacted, compactStep, closed, afterPages, checkpointed}
@@ -37,27 +37,26 @@ pub row-marked : (r z : List ℕ) (o p : ℕ) → o ≡ ownerOf r → o ≡ 0 �
 row-marked r z o p e h g = row-marks r (set z p 1) (set z (pageOf r) 1) z o e h (ap (λ (v : ℕ). set z v 1) g)
 
 -- the loop that marks: the rows still to come make of the marks so far what all rows make of the first
-mark-one : (b : Bool) (r : List ℕ) (rs : List (List ℕ)) (x : List ℕ) → markPages (consIf b r rs) x ≡ markPages rs (cond b (set x (pageOf r) 1) x)
-unfolding markPages
-mark-one true r rs x = refl
-mark-one false r rs x = refl
+abbrev markOne : List ℕ → List ℕ → List ℕ
+markOne r x = set x (pageOf r) 1
 
 mark-none : (x : List ℕ) → markPages [] x ≡ x
 unfolding markPages
 mark-none x = refl
 
+mark-more : (r : List ℕ) (rs : List (List ℕ)) (x : List ℕ) → markPages (r ∷ rs) x ≡ markPages rs (markOne r x)
+unfolding markPages
+mark-more r rs x = refl
+
 module _ (m : ℕ) (l : List ℕ) where
   pub mark-start : (x : List ℕ) → markPages (keep committed (rows 19 (m - 0) l 0)) x ≡ markPages (keep committed (rows 19 m l 0)) x
-  mark-start x = ap (λ (rs : List (List ℕ)). markPages (keep committed rs) x) (rows-start 19 m l)
+  mark-start = each-start markPages markOne mark-none mark-more committed m l
 
   pub mark-turn : (i : ℕ) (x x′ z : List ℕ) → i < m → x′ ≡ cond (committed (rowAt 19 l i)) (set x (pageOf (rowAt 19 l i)) 1) x → markPages (keep committed (rows 19 (m - i) l i)) x ≡ z → markPages (keep committed (rows 19 (m - (i + 1)) l (i + 1))) x′ ≡ z
-  mark-turn i x x′ z h q p =
-      let rs : List (List ℕ) = keep committed (rows 19 (m - (i + 1)) l (i + 1)) in
-      ap (λ (y : List ℕ). markPages rs y) q ∙ sym (mark-one (committed (rowAt 19 l i)) (rowAt 19 l i) rs x)
-      ∙ ap (λ (y : List (List ℕ)). markPages y x) (sym (keep-rows-more committed 19 m l i h)) ∙ p
+  mark-turn = each-turn markPages markOne mark-none mark-more committed m l
 
   pub mark-end : (i : ℕ) (x z : List ℕ) → m ≤ i → markPages (keep committed (rows 19 (m - i) l i)) x ≡ z → x ≡ z
-  mark-end i x z h p = sym (mark-none x) ∙ ap (λ (y : List (List ℕ)). markPages y x) (sym (keep-rows-end committed 19 m l i h)) ∙ p
+  mark-end = each-end markPages markOne mark-none mark-more committed m l
 
 -- where no committed row is of a page, the page has no committed row
 none-on : (p : ℕ) (l : List (List ℕ)) → any (onPage p) (keep committed l) ≡ false → length (keep (committedOn p) l) ≡ 0

@@ -1,38 +1,22 @@
 -- Laws of zero bytes behind a table's rows, of rows added to the log and numbered online, and of the whole commit.
-use Prim.Native.Nat.{ℕ, zero, suc, _+_, _*_, _-_, _≤_}
+use Prim.Native.Nat.{ℕ, _+_, _*_, _-_, _≤_}
 use native.Mathlib.Omega.{arith}
 use native.Mathlib.Nat.{add-mul}
-use mathlib.Core.Path.{_≡_, refl, sym, ap, _∙_}
-use mathlib.Core.Bool.{Bool, true, false, cond, _&&_}
-use mathlib.Core.List.{List, [], _∷_, _++_, append-assoc, map}
+use mathlib.Core.Path.{_≡_, sym, ap, _∙_}
+use mathlib.Core.Bool.{true, cond}
+use mathlib.Core.List.{List, _++_, append-assoc, map}
 use lib.ListN.{length, take, drop, set, replicate, length-append, length-drop, length-map}
 use lib.Seq.{drop-drop}
 use lib.Dec.{eqb}
-use borrow.Author.Tests.{eqb-true}
 use Rattle.word.specs.Word.{num, put}
 use Rattle.record.specs.Rows.{rows, joined, table, keep}
 use Rattle.record.specs.Record.{bodyOf, ownedBy, numberRows}
+use Rattle.record.proofs.Laws.{drop-zeros}
+use Rattle.rules.proofs.Every.{zeros-are}
 use Rattle.table.proofs.Laws.{sub-mul, joined-all, joined-append, length-rows, length-number, keep-length}
-use Rattle.rules.specs.Sound.{every, zeros}
+use Rattle.rules.specs.Sound.{zeros}
 use Rattle.rules.specs.Lent.{Lent, lentOf, liveAt}
 use Rattle.rules.specs.Steps.{committing}
-
--- zero bytes
-and-both : (a b : Bool) → (a && b) ≡ true → (a ≡ true) × (b ≡ true)
-and-both true b h = (refl, h)
-and-both false b h = let z : _≡_ {A = ℕ} 0 1 = cc in absurd (omega arith)
-
-pub zeros-are : (l : List ℕ) → zeros l ≡ true → l ≡ replicate (length l) 0
-unfolding zeros every
-zeros-are [] h = refl
-zeros-are (x ∷ l) h =
-    let e = and-both (eqb x 0) (every (λ (b : ℕ). eqb b 0) l) h in
-    ap (λ (y : ℕ). y ∷ l) (eqb-true x 0 (e .0)) ∙ ap (λ (y : List ℕ). 0 ∷ y) (zeros-are l (e .1))
-
-drop-replicate : (n k : ℕ) → _≡_ {A = List ℕ} (drop k (replicate n 0)) (replicate (n - k) 0)
-drop-replicate n zero = let e : n - 0 ≡ n = omega arith in rw e
-drop-replicate zero (suc k) = let e : 0 - suc k ≡ 0 = omega arith in rw e
-drop-replicate (suc n) (suc k) = let e : suc n - suc k ≡ n - k = omega arith in rw e (drop-replicate n k)
 
 -- bytes from b on are zero where those from a on are
 pub zeros-from : (a b : ℕ) (l : List ℕ) → zeros (drop a l) ≡ true → a ≤ b → drop b l ≡ replicate (length l - b) 0
@@ -41,7 +25,7 @@ zeros-from a b l h k =
     let n : length (drop a l) - (b - a) ≡ length l - b = rw (length-drop a l) (omega arith) in
     ap (λ (x : ℕ). drop x l) (sym e) ∙ sym (drop-drop (b - a) a l)
     ∙ ap (λ (x : List ℕ). drop (b - a) x) (zeros-are (drop a l) h)
-    ∙ drop-replicate (length (drop a l)) (b - a)
+    ∙ drop-zeros (length (drop a l)) (b - a)
     ∙ ap (λ (x : ℕ). replicate x 0) n
 
 -- rows in front of zero bytes are a table

@@ -1,26 +1,24 @@
 -- Laws of compact's functions: what was read and decided is what the step says.
 use Prim.Native.Nat.{ℕ, _+_, _*_, _-_, _/_, _≤_, _<_}
 use native.Mathlib.Omega.{arith}
-use native.Mathlib.Nat.{mul-le-mul, mul-comm, add-mul, one-mul}
 use mathlib.Core.Path.{_≡_, refl, sym, ap, _∙_}
 use mathlib.Core.Bool.{Bool, true, false, cond, not, _&&_, _||_, and-false}
 use mathlib.Core.List.{List}
 use lib.ListN.{length, getD, take, drop, set}
 use lib.Dec.{eqb, leb}
-use borrow.Author.Tests.{eq-eqb, ne-eqb, leb-true, not-true, not-false}
+use borrow.Author.Tests.{eq-eqb, ne-eqb, not-true, not-false}
 use Rattle.word.specs.Word.{num, put}
 use Rattle.record.specs.Part.{part, withPart}
 use Rattle.record.specs.Rows.{rows, keep, table}
 use Rattle.record.specs.Record.{onPage, committedOn, applied, gone, smallest, greatest}
-use Rattle.record.proofs.Laws.{getD-part}
-use Rattle.record.proofs.Parts.{length-part}
+use Rattle.record.proofs.Parts.{one-fits}
+use Rattle.rules.proofs.Tables.{entry-below}
 use Rattle.table.specs.Seen.{Surveyed}
 use Rattle.table.specs.declared.page.Survey.{Survey}
 use Rattle.order.specs.Order.{without}
-use Rattle.rules.specs.Lent.{Lent, lentOf, sizeOf, pagesOf, framesOf, roomOf, countOf, stampAt, orderOf, entryAt, entryOf, entriesOf, onlineOf, inFrame, frameOf, pageIn, withPage, withOrder, withCount}
+use Rattle.rules.specs.Lent.{Lent, lentOf, sizeOf, pagesOf, framesOf, roomOf, countOf, stampAt, orderOf, entryAt, entryOf, onlineOf, inFrame, frameOf, pageIn, withPage, withOrder, withCount}
 use Rattle.rules.specs.Shape.{Shaped}
 use Rattle.rules.specs.Steps.{due, foldable, fromFrame, compactedPage, compactedEntry, compactedOrder, unfolded, compacted, compactStep}
-use Rattle.rules.proofs.Every.{every-at}
 use Rattle.compact.specs.declared.Plan.{Plan}
 use Rattle.compact.specs.declared.Sizes.{Sizes}
 use Rattle.compact.specs.Planned.{Measured, Planned}
@@ -104,23 +102,6 @@ count-written n t t′ t″ e f = f ∙ ap (λ (x : List ℕ). withCount n x) e
 pub planned-seen : (fixed tables online : List ℕ) (p e : ℕ) (z : Sizes) (v : Survey) (r : Plan) → Measured fixed tables z → Surveyed p (num 2 tables 0) online v → Planned (v .committed) (v .all) e (v .most) r
     → Planned (length (keep (committedOn p) (rows 19 (z .count) online 0))) (length (keep (onPage p) (rows 19 (z .count) online 0))) e (greatest 0 (keep (committedOn p) (rows 19 (z .count) online 0))) r
 planned-seen fixed tables online p e z v r m s k = rw (m .count) (rw (s .committed, s .all, s .most) at k)
-
--- a page or a frame of a row of them
-pub one-fits : (p pages size n : ℕ) → p < pages → n ≡ size * pages → p * size + size ≤ n
-one-fits p pages size n h e =
-    let k : (p + 1) * size ≤ pages * size = mul-le-mul {n₁ = p + 1} {m₁ = size} {n₂ = pages} {m₂ = size} (omega arith) (omega arith) in
-    let f : (p + 1) * size ≡ p * size + size = add-mul p 1 size ∙ ap (λ (x : ℕ). p * size + x) (one-mul size) in
-    let g : size * pages ≡ pages * size = mul-comm size pages in
-    omega arith
-
--- an entry names a frame
-pub entry-below : (s : Lent) (p : ℕ) → Shaped s → p < pagesOf s → entryOf s p / 2 ≤ framesOf s
-entry-below s p w h =
-    let z = w .sized in
-    let n : length (entriesOf s) ≡ pagesOf s = length-part (35 + framesOf s) (pagesOf s) (s .lost .tables) (omega arith) in
-    let k : p < length (entriesOf s) = omega arith in
-    let e : getD (entriesOf s) p 0 ≡ entryOf s p = getD-part p (35 + framesOf s) (pagesOf s) (s .lost .tables) h in
-    rw e at (leb-true (getD (entriesOf s) p 0 / 2) (framesOf s) (every-at (λ (x : ℕ). leb (x / 2) (framesOf s)) (entriesOf s) p (w .entries) k))
 
 -- the order as the plan has it, and as the step has it
 order-pick : (x y : Bool) (o q : List ℕ) → cond (not x && y) q o ≡ cond x o (cond y q o)

@@ -13,7 +13,8 @@ use Rattle.word.proofs.Puts.{num-put-below}
 use Rattle.record.specs.Part.{part}
 use Rattle.record.specs.Rows.{rows, table, consIf, keep}
 use Rattle.record.specs.Record.{onPage, committedOn, gone, greatest, applied}
-use Rattle.record.proofs.Parts.{length-part, length-with, part-set}
+use Rattle.record.proofs.Parts.{length-part, length-with, part-set, one-fits}
+use Rattle.record.proofs.Laws.{either-length}
 use Rattle.apply.proofs.Laws.{length-applied}
 use Rattle.table.proofs.Laws.{keep-length, length-rows, wide-all, wide-keep, rows-table, length-kept-table}
 use Rattle.order.specs.Order.{without}
@@ -22,9 +23,8 @@ use Rattle.rules.specs.Lent.{Lent, sizeOf, pagesOf, framesOf, roomOf, lastOf, l
 use Rattle.rules.specs.Sound.{every}
 use Rattle.rules.specs.Shape.{Shaped}
 use Rattle.rules.specs.Steps.{due, foldable, fromFrame, compactedPage, compactedEntry, compactedOrder, unfolded, compacted, compactStep}
-use Rattle.rules.proofs.Tables.{tables-length, tables-count, tables-used, tables-order, tables-behind}
+use Rattle.rules.proofs.Tables.{tables-length, tables-count, tables-used, tables-order, tables-behind, entry-below}
 use Rattle.rules.proofs.Every.{every-set, every-without}
-use Rattle.compact.proofs.Laws.{one-fits, entry-below}
 
 -- what is fixed, L and n
 pub fixed-compact : (s : Lent) (p : ℕ) → compacted s p .lent .durable .fixed ≡ s .durable .fixed
@@ -38,11 +38,6 @@ last-compact s p = num-put-below 4 4 (s .durable .marks) (stampAt p) (greatest 0
 pub logged-compact : (s : Lent) (p : ℕ) → loggedOf (compacted s p .lent) ≡ loggedOf s
 unfolding compacted
 logged-compact s p = num-put-below 4 4 (s .durable .marks) (stampAt p) (greatest 0 (foldable s p)) 8 (omega arith)
-
--- a page in a frame and a page with records folded in are as long as a page
-page-long : (b : Bool) (n : ℕ) (x y : List ℕ) → length x ≡ n → length y ≡ n → length (cond b x y) ≡ n
-page-long true n x y h k = h
-page-long false n x y h k = k
 
 -- an entry that compact writes names a frame, or none
 clean-below : (b c : Bool) (e frames : ℕ) → 1 ≤ frames → e / 2 ≤ frames → cond b (cleanIn (frameOf e)) (cond c 0 1) / 2 ≤ frames
@@ -67,7 +62,7 @@ module _ (s : Lent) (p : ℕ) (w : Shaped s) (h : p < pagesOf s) where
   page-length =
       let z = w .sized in
       let f : frameOf (entryOf s p) < framesOf s = omega (arith, entry-below s p w h) in
-      page-long (fromFrame s p) (sizeOf s) (pageIn (sizeOf s) (frameOf (entryOf s p)) (s .lost .pool)) (applied (foldable s p) (pageIn (sizeOf s) p (s .durable .stored)))
+      either-length (fromFrame s p) (sizeOf s) (pageIn (sizeOf s) (frameOf (entryOf s p)) (s .lost .pool)) (applied (foldable s p) (pageIn (sizeOf s) p (s .durable .stored)))
       (length-part (frameOf (entryOf s p) * sizeOf s) (sizeOf s) (s .lost .pool) (one-fits (frameOf (entryOf s p)) (framesOf s) (sizeOf s) (length (s .lost .pool)) f (z .pool)))
       (length-applied (foldable s p) (pageIn (sizeOf s) p (s .durable .stored))
       ∙ length-part (p * sizeOf s) (sizeOf s) (s .durable .stored) (one-fits p (pagesOf s) (sizeOf s) (length (s .durable .stored)) h (z .stored)))

@@ -11,6 +11,7 @@ use lib.Seq.{drop-cons, take-all}
 use lib.Pow.{pow-pos, shr-shr}
 use lib.Dec.{eqb, leb, ltb, lit<, leb·suc-suc}
 use borrow.Author.Tests.{eqb-true, leb-true, eq-eqb, ne-eqb, le-leb, lt-leb, lt-ltb, le-ltb, ltb-true, ltb-false, not-true, not-false}
+use Rattle.word.proofs.Tests.{and-both}
 use Rattle.record.specs.Rows.{rowAt, rows}
 use Rattle.record.specs.Record.{pageOf, offsetOf, lengthOf, kindOf, valueOf, isLength, wellFormed}
 use Rattle.word.specs.Word.{num}
@@ -22,14 +23,10 @@ use Rattle.durable.specs.Marks.{isRecord, soundCounts, stampWithin, soun
 use Rattle.durable.specs.Ranges.{Ranged}
 
 -- tests in a row
-pub and-two : (a b : Bool) → (a && b) ≡ true → (a ≡ true) × (b ≡ true)
-and-two true b h = (refl, h)
-and-two false b h = let z : _≡_ {A = ℕ} 0 1 = cc in absurd (omega arith)
-
 and-three : (a b c : Bool) → (a && b && c) ≡ true → (a ≡ true) × (b ≡ true) × (c ≡ true)
 and-three a b c h =
-    let x = and-two (a && b) c h in
-    let y = and-two a b (x .0) in
+    let x = and-both (a && b) c h in
+    let y = and-both a b (x .0) in
     (y .0, y .1, x .1)
 
 and-five : (a b c d e : Bool) → (a && b && c && d && e) ≡ true → (a ≡ true) × (b ≡ true) × (c ≡ true) × (d ≡ true) × (e ≡ true)
@@ -40,7 +37,7 @@ and-five a b c d e h =
 
 and-six : (a b c d e f : Bool) → (a && b && c && d && e && f) ≡ true → (a ≡ true) × (b ≡ true) × (c ≡ true) × (d ≡ true) × (e ≡ true) × (f ≡ true)
 and-six a b c d e f h =
-    let x = and-two (a && b && c && d && e) f h in
+    let x = and-both (a && b && c && d && e) f h in
     let y = and-five a b c d e (x .0) in
     (y .0, y .1, y .2, y .3, y .4, x .1)
 
@@ -208,7 +205,7 @@ module _ (size pages page offset w kind v : ℕ) where
 
         pub record-value : {most : List ℕ} → most ≡ mostValues → kind ≤ 1 → leb v (getD most w 0) ≡ isRecord size pages page offset w kind v
         unfolding isRecord
-        record-value e h = rw (e, lt-ltb page pages paged, fits, le-leb kind 1 h) (most-test w v (and-two (isLength w) (leb (offset + w) size) fits .0))
+        record-value e h = rw (e, lt-ltb page pages paged, fits, le-leb kind 1 h) (most-test w v (and-both (isLength w) (leb (offset + w) size) fits .0))
 
 -- `well_formed`: the fields are those of a row
 pub record-fields : (size pages page offset w kind v : ℕ) (r : List ℕ) (x : Bool) → page ≡ pageOf r → offset ≡ offsetOf r → w ≡ lengthOf r → kind ≡ kindOf r → v ≡ valueOf r → x ≡ isRecord size pages page offset w kind v → x ≡ wellFormed size pages r
@@ -276,7 +273,7 @@ size-bounds n false false false false ea eb ec ed h = let z : _≡_ {A = ℕ} 0 
 
 between-bounds : (low n high : ℕ) → between low n high ≡ true → (low ≤ n) × (n ≤ high)
 between-bounds low n high h =
-    let e = and-two (leb low n) (leb n high) h in
+    let e = and-both (leb low n) (leb n high) h in
     (leb-true low n (e .0), leb-true n high (e .1))
 
 pub ranged : (size pages frames room span : ℕ) → inRange size pages frames room span ≡ true → Ranged size pages frames room span
@@ -306,7 +303,7 @@ pub area-small : (size n : ℕ) → size ≤ 4096 → n ≤ 1024 → size * n �
 area-small size n h k = mul-le-mul {n₁ = size} {m₁ = n} {n₂ = 4096} {m₂ = 1024} h k
 
 -- the six lengths that `exact_lengths` found
-lengths-each : (s : Lent) (size pages frames room span : ℕ) → exactLengths s size pages frames room span ≡ true → (length (s .durable .marks) ≡ 12 + 8 * pages) × (length (s .durable .log) ≡ 14 * span) × (length (s .durable .stored) ≡ size * pages) × (length (s .lost .tables) ≡ 35 + frames + pages) × (length (s .lost .online) ≡ 19 * room) × (length (s .lost .pool) ≡ size * frames)
+pub lengths-each : (s : Lent) (size pages frames room span : ℕ) → exactLengths s size pages frames room span ≡ true → (length (s .durable .marks) ≡ 12 + 8 * pages) × (length (s .durable .log) ≡ 14 * span) × (length (s .durable .stored) ≡ size * pages) × (length (s .lost .tables) ≡ 35 + frames + pages) × (length (s .lost .online) ≡ 19 * room) × (length (s .lost .pool) ≡ size * frames)
 unfolding exactLengths
 lengths-each s size pages frames room span h =
     let e =
@@ -365,7 +362,7 @@ pub durable-sized : (s : Lent) → soundDurable s ≡ true → Sized s
 unfolding s1-parameters s2-lengths
 durable-sized s h =
     let e = durable-clauses s h in
-    let p = and-two (eqb (length (s .durable .fixed)) 20) (inRange (sizeOf s) (pagesOf s) (framesOf s) (roomOf s) (spanOf s)) (e .0) in
+    let p = and-both (eqb (length (s .durable .fixed)) 20) (inRange (sizeOf s) (pagesOf s) (framesOf s) (roomOf s) (spanOf s)) (e .0) in
     let r = ranged (sizeOf s) (pagesOf s) (framesOf s) (roomOf s) (spanOf s) (p .1) in
     let l = lengths-each s (sizeOf s) (pagesOf s) (framesOf s) (roomOf s) (spanOf s) (e .1) in
     record {

@@ -1,48 +1,31 @@
 -- Laws of pages and frames within their areas, and of what fetch finds.
 use Prim.Native.Nat.{ℕ, zero, suc, _+_, _*_, _-_, _/_, _%_, _≤_, _<_}
 use native.Mathlib.Omega.{arith}
-use native.Mathlib.Nat.{mul-comm, mul-le-mul, suc-mul}
-use mathlib.Core.Path.{_≡_, refl, sym, ap, _∙_}
-use mathlib.Core.Bool.{Bool, true, false, cond, not, _&&_}
+use mathlib.Core.Path.{_≡_, sym, _∙_}
+use mathlib.Core.Bool.{Bool, true, false, cond, not}
 use mathlib.Core.List.{List, [], _∷_, _++_}
 use lib.ListN.{length, getD, take, drop, length-take, length-drop}
-use lib.Seq.{take-nil, take-take, drop-drop}
-use lib.Dec.{eqb, leb, ltb}
-use borrow.Author.Tests.{eq-eqb, ne-eqb, leb-true, ltb-true}
+use lib.Dec.{eqb, ltb}
+use borrow.Author.Tests.{eq-eqb, ne-eqb, ltb-true}
 use borrow.Rule.Slice.PartMut.{putMid, put-same}
 use Rattle.record.specs.Part.{part, withPart}
 use Rattle.record.specs.Rows.{rows, keep}
 use Rattle.record.specs.Record.{onPage, applied}
-use Rattle.record.proofs.Laws.{getD-part}
+use Rattle.record.proofs.Parts.{part-inner, one-fits}
 use Rattle.order.specs.Order.{named, touched, victim, frameFrom, frameFor}
-use Rattle.rules.specs.Lent.{Lent, sizeOf, pagesOf, framesOf, countOf, orderOf, entryAt, entryOf, entriesOf, pageIn, withPage, withOrder, withEntries}
+use Rattle.rules.specs.Lent.{Lent, sizeOf, pagesOf, framesOf, countOf, orderOf, entryAt, entryOf, pageIn, withPage, withOrder, withEntries}
 use Rattle.rules.specs.Sound.{every}
 use Rattle.rules.specs.Shape.{Shaped}
 use Rattle.rules.specs.Steps.{placed, rebuilt, fetchedEntries, fetchedPool, readTables, readStep, readBytes}
+use Rattle.rules.proofs.Every.{every-at}
+use Rattle.rules.proofs.Tables.{entry-below}
 use Rattle.fetch.specs.Post.{SizesRead, PageBrought, PageFetched, PageUsed, ReadDone}
-
--- one of n frames lies within the n of them
-pub frame-fits : (f n size : ℕ) → f < n → f * size + size ≤ size * n
-frame-fits f n size h =
-    let e : suc f * size ≤ n * size = mul-le-mul {n₁ = suc f} {m₁ = size} {n₂ = n} {m₂ = size} h (omega arith) in
-    rw (mul-comm size n) (omega (arith, suc-mul f size))
 
 -- a middle part put back
 pub mid-put : (l ys zs : List ℕ) (a k e : ℕ) → e ≡ a + k → ys ≡ zs → putMid a (e - a) l ys ≡ withPart a k l zs
 mid-put l ys zs a k e h q =
     let d : e - a ≡ k = omega arith in
     rw (d, q)
-
--- a test that all pass, at a place
-pub and-both : (a b : Bool) → (a && b) ≡ true → (a ≡ true) × (b ≡ true)
-and-both true b h = (refl, h)
-and-both false b h = let z : _≡_ {A = ℕ} 0 1 = cc in absurd (omega arith)
-
-pub every-at : (b : ℕ → Bool) (l : List ℕ) (i : ℕ) → i < length l → every b l ≡ true → b (getD l i 0) ≡ true
-unfolding every
-every-at b [] i p h = absurd (omega arith)
-every-at b (x ∷ l) zero p h = and-both (b x) (every b l) h .0
-every-at b (x ∷ l) (suc i) p h = every-at b l i (omega arith) (and-both (b x) (every b l) h .1)
 
 -- the frame for a page is one of the frames
 frame-from-below : (n f frames : ℕ) (o : List ℕ) → f + n ≤ frames → victim o < frames → frameFrom n f o < frames
@@ -57,18 +40,11 @@ frame-from-below (suc n) f frames o p h = go (named f o) (frame-from-below n (f 
 victim-below : (frames : ℕ) (o : List ℕ) → 1 ≤ frames → every (λ (f : ℕ). ltb f frames) o ≡ true → victim o < frames
 unfolding victim
 victim-below frames [] p h = p
-victim-below frames (f ∷ o) p h = ltb-true f frames (every-at (λ (f : ℕ). ltb f frames) (f ∷ o) 0 (omega arith) h)
+victim-below frames (f ∷ o) p h = ltb-true f frames (every-at (λ (f : ℕ). ltb f frames) (f ∷ o) 0 h (omega arith))
 
 pub frame-below : (frames : ℕ) (o : List ℕ) → 1 ≤ frames → every (λ (f : ℕ). ltb f frames) o ≡ true → frameFor frames o < frames
 unfolding frameFor
 frame-below frames o p h = frame-from-below frames 0 frames o (omega arith) (victim-below frames o p h)
-
--- an entry in a frame names one of the frames
-pub entry-within : (s : Lent) (p : ℕ) → Shaped s → p < pagesOf s → entryOf s p / 2 ≤ framesOf s
-entry-within s p h q =
-    let long : p < length (entriesOf s) = omega (arith, length-take (pagesOf s) (drop (35 + framesOf s) (s .lost .tables)), length-drop (35 + framesOf s) (s .lost .tables), h .sized .tables) in
-    let e : getD (entriesOf s) p 0 ≡ entryOf s p = getD-part p (35 + framesOf s) (pagesOf s) (s .lost .tables) q in
-    rw e at (leb-true (getD (entriesOf s) p 0 / 2) (framesOf s) (every-at (λ (e : ℕ). leb (e / 2) (framesOf s)) (entriesOf s) p long (h .entries)))
 
 -- the entry and the frame, by the parameters that were read
 pub entry-in : (s : Lent) (p size pages frames e : ℕ) → SizesRead (s .durable .fixed) size pages frames → e ≡ getD (s .lost .tables) (entryAt frames p) 0 → e ≡ entryOf s p
@@ -86,7 +62,7 @@ pub fetched-there : (s : Lent) (p e : ℕ) → Shaped s → p < pagesOf s → e 
 unfolding fetchedEntries fetchedPool
 fetched-there s p e h q i n =
     let b : eqb (entryOf s p / 2) 0 ≡ false = rw i at (ne-eqb (e / 2) 0 n) in
-    let w : e / 2 ≤ framesOf s = rw i (entry-within s p h q) in
+    let w : e / 2 ≤ framesOf s = rw i (entry-below s p h q) in
     record {
       frame = rw (b, i);
       within = omega arith;
@@ -110,8 +86,8 @@ fetched-new s p e f h i n m w =
 -- a frame, a stored page and the online rows lie within their areas
 pub fill-fits : (s : Lent) (p f size m : ℕ) → Shaped s → p < pagesOf s → f < framesOf s → size ≡ sizeOf s → m ≡ countOf s → (f * size + size ≤ length (s .lost .pool)) × (p * size + size ≤ length (s .durable .stored)) × (m * 19 ≤ length (s .lost .online))
 fill-fits s p f size m h q r e i = (
-  rw e (omega (arith, frame-fits f (framesOf s) (sizeOf s) r, h .sized .pool)),
-  rw e (omega (arith, frame-fits p (pagesOf s) (sizeOf s) q, h .sized .stored)),
+  rw e (one-fits f (framesOf s) (sizeOf s) (length (s .lost .pool)) r (h .sized .pool)),
+  rw e (one-fits p (pagesOf s) (sizeOf s) (length (s .durable .stored)) q (h .sized .stored)),
   omega (arith, h .count, h .sized .online),
 )
 
@@ -124,19 +100,6 @@ brought s p f size pages frames m e t g z i j et eg =
       pool = rw (← z .frames, ← z .size, ← i, ← j) eg;
     }
 
--- a part of a part
-drop-take : (i k : ℕ) (l : List ℕ) → i ≤ k → drop i (take k l) ≡ take (k - i) (drop i l)
-drop-take zero k l h = let e : k - 0 ≡ k = omega arith in rw e
-drop-take (suc i) zero l h = absurd (omega arith)
-drop-take (suc i) (suc k) [] h = sym (take-nil (suc k - suc i))
-drop-take (suc i) (suc k) (x ∷ l) h = let e : suc k - suc i ≡ k - i = omega arith in rw e (drop-take i k l (omega arith))
-
-pub part-part : (b w a k : ℕ) (l : List ℕ) → b + w ≤ k → part b w (part a k l) ≡ part (a + b) w l
-part-part b w a k l h =
-    ap (λ (m : List ℕ). take w m) (drop-take b k (drop a l) (omega arith))
-    ∙ take-take w (k - b) (drop b (drop a l)) (omega arith)
-    ∙ ap (λ (m : List ℕ). take w m) (drop-drop b a l)
-
 -- bytes of a page, out of its frame
 pub out-length : (l m : List ℕ) (a w : ℕ) → w ≤ length m → a + w ≤ length l → length (take w m) ≡ length (take (a + w - a) (drop a l))
 out-length l m a w h i =
@@ -146,7 +109,7 @@ out-length l m a w h i =
 pub out-part : (l b ys : List ℕ) (f size offset w : ℕ) → offset + w ≤ size → ys ≡ take (f * size + offset + w - (f * size + offset)) (drop (f * size + offset) l) → ys ++ drop w b ≡ part offset w (pageIn size f l) ++ drop w b
 out-part l b ys f size offset w h e =
     let d : f * size + offset + w - (f * size + offset) ≡ w = omega arith in
-    rw (e, d, part-part offset w (f * size) size l h)
+    rw (e, d, part-inner (f * size) size offset w l h)
 
 -- the frame is the latest used
 pub used : (s : Lent) (p f n size pages frames : ℕ) (o t t′ g : List ℕ) → SizesRead (s .durable .fixed) size pages frames → o ≡ orderOf s → PageFetched s p f n t g → t′ ≡ withOrder frames (touched f o) t → PageUsed s p f n t′ g (readTables s p)
@@ -163,7 +126,7 @@ used s p f n size pages frames o t t′ g z i h e =
 -- its bytes lie within the pool
 pub used-fits : (s : Lent) (p f n size pages frames : ℕ) (t g m : List ℕ) → Shaped s → SizesRead (s .durable .fixed) size pages frames → PageUsed s p f n t g m → length g ≡ length (s .lost .pool) → f * size + size ≤ length g
 used-fits s p f n size pages frames t g m h z w e =
-    rw (z .size) (omega (arith, frame-fits f (framesOf s) (sizeOf s) (w .within), h .sized .pool, e))
+    rw (z .size) (one-fits f (framesOf s) (sizeOf s) (length g) (w .within) (e ∙ h .sized .pool))
 
 pub read-done : (s : Lent) (p offset w f n size pages frames : ℕ) (t g b d : List ℕ) → SizesRead (s .durable .fixed) size pages frames → PageUsed s p f n t g (readTables s p) → d ≡ part offset w (pageIn size f g) ++ drop w b → ReadDone s p offset w n t g b d
 unfolding readStep readBytes

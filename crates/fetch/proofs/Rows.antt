@@ -1,54 +1,36 @@
 -- Laws of an update's row: appended to the online table, read back from it, and its page.
-use Prim.Native.Nat.{ℕ, zero, suc, _+_, _*_, _-_, _≤_, _<_}
+use Prim.Native.Nat.{ℕ, _+_, _*_, _-_, _≤_, _<_}
 use native.Mathlib.Omega.{arith}
-use native.Mathlib.Nat.{zero-add, suc-add}
-use mathlib.Core.Path.{_≡_, refl, sym, ap, _∙_}
+use mathlib.Core.Path.{_≡_, sym, ap, _∙_}
 use mathlib.Core.Bool.{Bool, true, false, cond}
 use mathlib.Core.List.{List, [], _∷_, _++_, map, append-assoc, append-nil}
 use lib.ListN.{length, take, drop, set, replicate, length-append, length-take, length-drop, length-set, length-map}
 use lib.Seq.{length-take-le, set-append-left, take-at, drop-at}
-use lib.Dec.{eqb}
-use borrow.Author.Tests.{eqb-true}
 use Rattle.word.specs.Word.{num, put}
 use Rattle.record.specs.Part.{withPart}
 use Rattle.record.specs.Rows.{rowAt, rows, joined, table}
 use Rattle.record.specs.Record.{pageOf, apply, rowOf}
+use Rattle.record.proofs.Laws.{drop-zeros}
+use Rattle.rules.proofs.Every.{zeros-are}
 use Rattle.table.proofs.Laws.{length-rows, joined-all}
 use Rattle.order.specs.Order.{touched}
 use Rattle.rules.specs.Lent.{Lent, sizeOf, pagesOf, framesOf, roomOf, countOf, orderOf, entryAt, entryOf, entriesOf, onlineOf, inFrame, dirtyIn, pageIn, withPage, withOrder, withCount}
-use Rattle.rules.specs.Sound.{every, zeros}
+use Rattle.rules.specs.Sound.{zeros}
 use Rattle.rules.specs.Shape.{Shaped}
 use Rattle.rules.specs.Steps.{freed, placed, placeOf, fetchedEntries, fetchedPool, updateTables, updated}
+use Rattle.table.proofs.Moves.{set-append-add}
 use Rattle.fetch.specs.Post.{SizesRead, PageFetched, PageUsed, UpdateDone}
-use Rattle.fetch.proofs.Laws.{and-both}
 
 -- an update's row has its page, and 19 bytes
 pub row-page : (p offset w kind v x : ℕ) → p < 65536 → pageOf (rowOf p offset w kind v x) ≡ p
 unfolding rowOf put num
 row-page p offset w kind v x h = omega arith
 
-pub row-length : (p offset w kind v x : ℕ) → length (rowOf p offset w kind v x) ≡ 19
-unfolding rowOf put
-row-length p offset w kind v x = refl
-
 -- a row that was written, read back
 pub row-back : (m : ℕ) (l r : List ℕ) → m * 19 ≤ length l → length r ≡ 19 → rowAt 19 (withPart (m * 19) 19 l r) m ≡ r
 row-back m l r h e =
     ap (λ (k : List ℕ). take 19 k) (drop-at (take (m * 19) l) (r ++ drop 19 (drop (m * 19) l)) (m * 19) (length-take-le (m * 19) l h))
     ∙ take-at r (drop 19 (drop (m * 19) l)) 19 e
-
--- zeros are as many as there are
-zeros-all : (l : List ℕ) → zeros l ≡ true → l ≡ replicate (length l) 0
-unfolding zeros every
-zeros-all [] h = refl
-zeros-all (x ∷ l) h =
-    let e = and-both (eqb x 0) (zeros l) h in
-    rw (eqb-true x 0 (e .0)) (ap (λ (k : List ℕ). 0 ∷ k) (zeros-all l (e .1)))
-
-drop-zeros : (k n : ℕ) → drop {A = ℕ} k (replicate n 0) ≡ replicate (n - k) 0
-drop-zeros zero n = let e : n - 0 ≡ n = omega arith in rw e
-drop-zeros (suc k) zero = let e : 0 - suc k ≡ 0 = omega arith in rw e
-drop-zeros (suc k) (suc n) = let e : suc n - suc k ≡ n - k = omega arith in rw e (drop-zeros k n)
 
 joined-last : (rs : List (List ℕ)) (r : List ℕ) → joined (rs ++ (r ∷ [])) ≡ joined rs ++ r
 unfolding joined
@@ -62,21 +44,17 @@ row-appended m room l r h q z =
     let n : length (rows 19 m l 0 ++ (r ∷ [])) ≡ m + 1 = length-append (rows 19 m l 0) (r ∷ []) ∙ ap (λ (k : ℕ). k + 1) (length-rows 19 m l 0) in
     let d : length (drop (m * 19) l) - 19 ≡ (room - (m + 1)) * 19 = omega (arith, length-drop (m * 19) l) in
     let e : drop 19 (drop (m * 19) l) ≡ replicate ((room - (m + 1)) * 19) 0 =
-    ap (λ (k : List ℕ). drop 19 k) (zeros-all (drop (m * 19) l) z)
-    ∙ drop-zeros 19 (length (drop (m * 19) l))
+    ap (λ (k : List ℕ). drop 19 k) (zeros-are (drop (m * 19) l) z)
+    ∙ drop-zeros (length (drop (m * 19) l)) 19
     ∙ ap (λ (k : ℕ). replicate k 0) d
     in
     rw (joined-last, n, joined-all 19 m l, append-assoc, ← e)
 
 -- an entry among the entries
-set-past : (xs ys : List ℕ) (i a : ℕ) → set (xs ++ ys) (length xs + i) a ≡ xs ++ set ys i a
-set-past [] ys i a = rw (zero-add i)
-set-past (x ∷ xs) ys i a = rw (suc-add (length xs) i) (ap (λ (k : List ℕ). x ∷ k) (set-past xs ys i a))
-
 pub set-in-part : (a k p d : ℕ) (t es : List ℕ) → a ≤ length t → p < length es → set (withPart a k t es) (a + p) d ≡ withPart a k t (set es p d)
 set-in-part a k p d t es h q =
     ap (λ (n : ℕ). set (withPart a k t es) (n + p) d) (sym (length-take-le a t h))
-    ∙ set-past (take a t) (es ++ drop k (drop a t)) p d
+    ∙ set-append-add (take a t) (es ++ drop k (drop a t)) p d
     ∙ ap (λ (l : List ℕ). take a t ++ l) (set-append-left es (drop k (drop a t)) p d q)
 
 -- what `note_change` leaves

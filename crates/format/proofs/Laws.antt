@@ -1,24 +1,14 @@
--- Laws of a slice that is cleared, of stamps written from page 0 on, and of the parameters.
+-- Laws of stamps written from page 0 on, of the parameters, and of the areas of a fresh store.
 use Prim.Native.Nat.{ℕ, zero, suc, _+_, _-_, _/_, _%_, _≤_, _<_}
 use native.Mathlib.Omega.{arith}
 use mathlib.Core.Path.{_≡_, refl, sym, ap, _∙_}
-use mathlib.Core.List.{List, [], _∷_, _++_, append-nil}
-use lib.ListN.{length, set, take, drop, replicate, length-set}
-use lib.Seq.{drop-length, take-all, take-suc-set}
-use borrow.Author.Fill.{fill-more}
+use mathlib.Core.List.{List, [], _∷_, _++_}
+use lib.ListN.{length, set, take, replicate, length-set}
+use lib.Seq.{take-all, take-suc-set}
 use Rattle.word.specs.Word.{put}
 use Rattle.word.proofs.Laws.{length-put}
 use Rattle.rules.specs.Lent.{stampAt, lentOf}
 use Rattle.rules.specs.Steps.{stamped, formatted}
-
--- `clear`: a turn and the end
-pub clear-turn : (s₀ s : List ℕ) (i : ℕ) → i < length s₀ → s ≡ replicate i 0 ++ drop i s₀ → set s i 0 ≡ replicate (i + 1) 0 ++ drop (i + 1) s₀
-clear-turn s₀ s i h e = ap (λ (l : List ℕ). set l i 0) e ∙ fill-more i 0 s₀ h
-
-pub clear-done : (s₀ s : List ℕ) (i : ℕ) → i ≤ length s₀ → length s₀ ≤ i → s ≡ replicate i 0 ++ drop i s₀ → s ≡ replicate (length s₀) 0
-clear-done s₀ s i p q e =
-    let a : i ≡ length s₀ = omega arith in
-    (rw a at e) ∙ ap (λ (l : List ℕ). replicate (length s₀) 0 ++ l) (drop-length s₀) ∙ append-nil (replicate (length s₀) 0)
 
 -- `stamp_all`: none, a turn and the end
 pub stamp-none : (n last : ℕ) (ms : List ℕ) → stamped (n - 0) 0 last ms ≡ stamped n 0 last ms

@@ -8,6 +8,7 @@ use lib.ListN.{length, getD, set}
 use lib.Dec.{eqb, ltb}
 use Rattle.record.specs.Rows.{keep}
 use Rattle.record.specs.Record.{pageOf, applied, onPage, ownedBy, committed, wellFormed}
+use Rattle.rules.proofs.Every.{every-keep}
 use Rattle.table.proofs.Laws.{Wide}
 use Rattle.rules.specs.Lent.{Lent, pagesOf, framesOf, orderOf, entryAt, entriesOf, onlineOf, inFrame, frameOf, pageIn}
 use Rattle.rules.specs.Steps.{owned, others, framesFreed, aborted}
@@ -22,7 +23,6 @@ use Rattle.readback.proofs.Lost.{entry-whole, reads-aborted}
 use Rattle.history.specs.Past.{Past, aborts}
 use Rattle.history.proofs.Right.{Ground, LostRight, Right, rowsOf, openOf, aboveStamp}
 use Rattle.history.proofs.Settle.{settle}
-use Rattle.history.proofs.Tested.{every-keep}
 use Rattle.history.proofs.Facts.{done-paged, open-every, ranges, online-each}
 use Rattle.history.proofs.Pasts.{past-abort, open-abort}
 use Rattle.history.proofs.Carried.{lost-ended}

@@ -9,6 +9,7 @@ use lib.ListN.{length, drop}
 use lib.Seq.{drop-drop}
 use lib.Dec.{eqb, leb, ltb}
 use borrow.Author.Tests.{eq-eqb, ne-eqb, leb-true, le-leb, ltb-true}
+use Rattle.word.proofs.Tests.{and-both, and-in}
 use Rattle.record.specs.Rows.{keep}
 use Rattle.record.specs.Record.{pageOf, numberOf, committed, applied, onPage, committedOn, smallest}
 use Rattle.rules.specs.Lent.{Lent, pagesOf, framesOf, roomOf, lastOf, closedOf, loggedOf, dirtyOf, firstOf, logOf, orderOf, entriesOf, onlineOf, pageIn}
@@ -17,7 +18,7 @@ use Rattle.rules.specs.Steps.{droppedBy, closed}
 use Rattle.rules.proofs.Extremes.{numberAtMost}
 use Rattle.rules.proofs.Needed.{dropped-below}
 use Rattle.onlinecheck.specs.Online.{pageBelow}
-use Rattle.onlinecheck.proofs.Rows.{and-both, every-imp}
+use Rattle.onlinecheck.proofs.Rows.{every-imp}
 use Rattle.redo.proofs.Loose.{_≅_}
 use Rattle.redo.proofs.Views.{keep-same-where}
 use Rattle.redo.proofs.Reader.{every-both}
@@ -28,7 +29,6 @@ use Rattle.readback.proofs.Lost.{reads-closed}
 use Rattle.history.specs.Past.{Past}
 use Rattle.history.proofs.Right.{Ground, DurableRight, LostRight, Right, rowsOf, openOf, aboveStamp}
 use Rattle.history.proofs.Settle.{settle}
-use Rattle.history.proofs.Tested.{and-in}
 use Rattle.history.proofs.Facts.{done-paged, done-committed, open-unset, open-every, dirt-same, marks-long, logged-last, online-each}
 use Rattle.history.proofs.Known.{rows-last}
 use Rattle.history.proofs.Carried.{lost-restated}

@@ -10,6 +10,7 @@ use lib.Seq.{drop-append-le}
 use lib.Dec.{eqb, leb, ltb}
 use borrow.Author.Tests.{leb-true, ltb-true, lt-ltb, le-leb, lt-leb}
 use Rattle.word.specs.Word.{num}
+use Rattle.word.proofs.Tests.{and-both}
 use Rattle.record.specs.Rows.{keep}
 use Rattle.record.specs.Record.{pageOf, numberOf, bodyOf, applied, onPage, ownedBy, wellFormed}
 use Rattle.table.proofs.Laws.{Wide, wide-keep, wide-bodies}
@@ -17,7 +18,7 @@ use Rattle.rules.specs.Lent.{Lent, roomOf, spanOf, lastOf, closedOf, loggedOf, 
 use Rattle.rules.specs.Steps.{owned, committing}
 use Rattle.rules.specs.Sound.{every}
 use Rattle.rules.proofs.Every.{or-right}
-use Rattle.onlinecheck.proofs.Rows.{and-both, every-imp}
+use Rattle.onlinecheck.proofs.Rows.{every-imp}
 use Rattle.onlinecheck.proofs.Laws.{formed-page}
 use Rattle.redo.proofs.View.{keep-append}
 use Rattle.redo.proofs.Views.{keep-same, keep-all, keep-none}

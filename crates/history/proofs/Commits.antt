@@ -9,6 +9,7 @@ use lib.Seq.{drop-append-seam}
 use lib.Dec.{eqb}
 use Rattle.record.specs.Rows.{keep, any}
 use Rattle.record.specs.Record.{committed, bodyOf, onPage, ownedBy, numberRows, wellFormed}
+use Rattle.rules.proofs.Every.{every-keep}
 use Rattle.table.proofs.Laws.{Wide, keep-length}
 use Rattle.rules.specs.Lent.{Lent, framesOf, spanOf, lastOf, loggedOf, orderOf, entriesOf, onlineOf}
 use Rattle.rules.specs.Steps.{owned, committing}
@@ -22,7 +23,7 @@ use Rattle.readback.proofs.Lost.{reads-committing}
 use Rattle.history.specs.Past.{Past, commits}
 use Rattle.history.proofs.Right.{Ground, Right, PastRight, LostRight, rowsOf, openOf, uncommitted, aboveStamp}
 use Rattle.history.proofs.Settle.{settle}
-use Rattle.history.proofs.Tested.{every-drop, every-keep}
+use Rattle.history.proofs.Tested.{every-drop}
 use Rattle.history.proofs.Facts.{open-unset}
 use Rattle.history.proofs.Pasts.{open-commit, owned-made, past-commit}
 use Rattle.history.proofs.Known.{last-read, owned-read}

@@ -7,13 +7,13 @@ use mathlib.Core.List.{List, _++_}
 use lib.ListN.{length, getD, set}
 use lib.Dec.{eqb, leb}
 use borrow.Author.Tests.{leb-true, eqb-true}
+use Rattle.word.proofs.Tests.{and-both}
 use Rattle.record.specs.Rows.{keep, any}
 use Rattle.record.specs.Record.{applied, onPage, committedOn, smallest, greatest}
 use Rattle.apply.proofs.Laws.{length-applied}
 use Rattle.table.proofs.Laws.{keep-length}
 use Rattle.rules.specs.Lent.{Durable, Lent, pagesOf, framesOf, lastOf, entryOf, entriesOf, orderOf, onlineOf, inFrame, frameOf, isDirty, cleanIn, pageIn}
 use Rattle.rules.specs.Steps.{freedOf, foldable, due, fromFrame, compactedPage, compactedEntry, compactedOrder, unfolded, compacted}
-use Rattle.onlinecheck.proofs.Rows.{and-both}
 use Rattle.redo.proofs.Loose.{_≅_}
 use Rattle.seats.proofs.Seated.{Seated}
 use Rattle.seats.proofs.Places.{half-none, clean-frame, clean-not-dirty, seated-clean, seated-leave}

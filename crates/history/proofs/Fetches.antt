@@ -3,13 +3,14 @@
 use Prim.Native.Nat.{ℕ, _+_, _*_, _≤_, _<_, _^_}
 use native.Mathlib.Omega.{arith}
 use mathlib.Core.Path.{_≡_, refl, sym, ap, _∙_, subst}
-use mathlib.Core.Bool.{Bool, true, false, cond, not, _&&_, _||_, or-true, or-false, or-assoc, false≢true}
+use mathlib.Core.Bool.{Bool, true, false, cond, not, _&&_, _||_, or-true, or-false, or-assoc}
 use mathlib.Core.List.{List, [], _∷_, _++_, append-nil, append-assoc}
 use lib.ListN.{length, getD, set}
 use lib.Dec.{eqb, ltb}
 use borrow.Author.Tests.{eqb-true, eqb-false, eq-eqb, ne-eqb, lt-ltb, le-leb}
 use Rattle.record.specs.Rows.{keep, consIf, any}
 use Rattle.record.specs.Record.{pageOf, offsetOf, lengthOf, ownerOf, committed, isLength, wellFormed, apply, applied, rowOf, onPage, shareByte}
+use Rattle.record.proofs.Laws.{length-most}
 use Rattle.apply.proofs.Laws.{length-apply}
 use Rattle.order.specs.Order.{touched, frameFor}
 use Rattle.table.proofs.Laws.{length-rowOf}
@@ -274,18 +275,6 @@ apart-open {g} {done} {h} {s} x p offset w r e₁ e₂ e₃ e₄ k t =
     let all : any (clashes x p offset w) (keep (aboveStamp (s .durable .marks)) (rowsOf g done) ++ openOf h) ≡ false = sym (≅-any (clashes x p offset w) (t .lost .online-is)) ∙ k in
     every-imp (λ (a : List ℕ). not (clashes x p offset w a)) (λ (a : List ℕ). apart a r) (λ a y. apart-row x p offset w r e₁ e₂ e₃ e₄ a y) (openOf h)
     (none-each (clashes x p offset w) (openOf h) (none-after (clashes x p offset w) (keep (aboveStamp (s .durable .marks)) (rowsOf g done)) (openOf h) all))
-
--- "length (1, 2, 4 or 8)"
-length-most : (w : ℕ) → isLength w ≡ true → w ≤ 8
-unfolding isLength
-length-most w h = go (eqb w 1) (eqb w 2) (eqb w 4) (eqb w 8) refl refl refl refl h
-  where
-    go : (a b c d : Bool) → eqb w 1 ≡ a → eqb w 2 ≡ b → eqb w 4 ≡ c → eqb w 8 ≡ d → (a || b || c || d) ≡ true → w ≤ 8
-    go true b c d e₁ e₂ e₃ e₄ k = omega (arith, eqb-true w 1 e₁)
-    go false true c d e₁ e₂ e₃ e₄ k = omega (arith, eqb-true w 2 e₂)
-    go false false true d e₁ e₂ e₃ e₄ k = omega (arith, eqb-true w 4 e₃)
-    go false false false true e₁ e₂ e₃ e₄ k = omega (arith, eqb-true w 8 e₄)
-    go false false false false e₁ e₂ e₃ e₄ k = absurd (false≢true k)
 
 -- update by an owner that is live, with arguments in range, where nobody else holds a byte and a row is free
 module _ {g : Ground} {done : List (List ℕ)} {h : Past} {s : Lent} (x p offset w kind v : ℕ) (a : p < pagesOf s) (b : 1 ≤ x) (c : x ≤ 32) (d : isLength w ≡ true) (e : offset + w ≤ sizeOf s) (f : v < 256 ^ w) (i : kind ≤ 1) (j : h .live x ≡ true) (k : held (onlineOf s) x p offset w ≡ false) (l : countOf s < roomOf s) (t : Right g done h s) where

@@ -9,22 +9,22 @@ use lib.ListN.{length}
 use lib.Dec.{eqb, leb, ltb}
 use borrow.Author.Tests.{leb-true, ltb-true, ltb-false, le-ltb, eqb-true, eqb-false, eq-eqb, ne-eqb}
 use Rattle.word.specs.Word.{num}
+use Rattle.word.proofs.Tests.{and-both}
 use Rattle.record.specs.Rows.{keep, consIf, any}
 use Rattle.record.specs.Record.{pageOf, numberOf, committed, applied, onPage, committedOn, gone, greatest}
 use Rattle.rules.specs.Lent.{stampAt}
 use Rattle.rules.specs.Sound.{every, pairs}
-use Rattle.rules.proofs.Every.{keep-within}
+use Rattle.rules.proofs.Every.{keep-within, every-keep, every-kept-where}
 use Rattle.rules.proofs.Extremes.{numberAtMost, greatest-all, greatest-most}
 use Rattle.rules.proofs.Needed.{open-stays}
-use Rattle.onlinecheck.proofs.Rows.{and-both, every-imp}
+use Rattle.onlinecheck.proofs.Rows.{every-imp}
 use Rattle.redo.proofs.Order.{≈-picked}
 use Rattle.redo.proofs.Loose.{_≅_, then, ≅-equal, ≅-keep, ≅-free, ≅-every}
 use Rattle.redo.proofs.View.{keep-append}
 use Rattle.redo.proofs.Views.{rising, keep-keep, keep-same-where, keep-both, keep-all, keep-none, stored-then-online}
-use Rattle.redo.proofs.Reader.{every-kept-where}
 use Rattle.seats.proofs.Loops.{any-kept}
 use Rattle.history.proofs.Right.{uncommitted, aboveStamp}
-use Rattle.history.proofs.Tested.{every-keep, picked-every}
+use Rattle.history.proofs.Tested.{picked-every}
 
 -- a page's committed records are gone, the others stay
 abbrev pub stays : ℕ → List ℕ → Bool

@@ -1,20 +1,20 @@
 -- A format is right from the start: nothing is committed, nobody is live, no page is in a frame, and the stored pages are the starting pages.
 -- So every history begins with bytes that are right for it.
-use Prim.Native.Nat.{ℕ, zero, suc, _+_, _*_, _-_, _≤_}
+use Prim.Native.Nat.{ℕ, _+_, _*_, _-_, _≤_}
 use native.Mathlib.Omega.{arith}
 use mathlib.Core.Path.{_≡_, refl, sym, ap, _∙_}
 use mathlib.Core.Logic.{inl}
-use mathlib.Core.Bool.{Bool, true, false, _&&_, false≢true}
+use mathlib.Core.Bool.{true, false, false≢true}
 use mathlib.Core.List.{List, []}
-use lib.ListN.{length, getD, replicate, length-replicate, drop-of-length-le}
+use lib.ListN.{length, replicate, length-replicate, drop-of-length-le}
 use lib.Dec.{eqb}
-use borrow.Author.Tests.{eqb-true}
 use Rattle.record.specs.Rows.{keep, any}
 use Rattle.record.specs.Record.{applied}
+use Rattle.order.proofs.Laws.{blank-at}
 use Rattle.rules.specs.Lent.{Lent, framesOf, lastOf, closedOf, loggedOf, inFrame, isDirty}
 use Rattle.rules.specs.Sound.{every, inRange, exactLengths}
 use Rattle.rules.specs.Steps.{formatted}
-use Rattle.onlinecheck.proofs.Rows.{and-both}
+use Rattle.durable.proofs.Laws.{lengths-each}
 use Rattle.redo.proofs.Loose.{still, numberedFrom}
 use Rattle.seats.proofs.Places.{seated-none}
 use Rattle.readback.proofs.Marks.{fixed-format, size-format, pages-format, frames-format, room-format, span-format, range-format, marks-format, last-format, closed-format, logged-format, stamp-format, dirty-format}
@@ -35,34 +35,11 @@ record Lengths (s : Lent) (size pages frames room span : ℕ) : Type 0 where
   pool : length (s .lost .pool) ≡ size * frames
 
 lengths-of : (s : Lent) (size pages frames room span : ℕ) → exactLengths s size pages frames room span ≡ true → Lengths s size pages frames room span
-unfolding exactLengths
 lengths-of s size pages frames room span e =
-    let m : Bool = eqb (length (s .durable .marks)) (12 + 8 * pages) in
-    let l : Bool = eqb (length (s .durable .log)) (14 * span) in
-    let d : Bool = eqb (length (s .durable .stored)) (size * pages) in
-    let t : Bool = eqb (length (s .lost .tables)) (35 + frames + pages) in
-    let o : Bool = eqb (length (s .lost .online)) (19 * room) in
-    let p : Bool = eqb (length (s .lost .pool)) (size * frames) in
-    let e5 = and-both (m && l && d && t && o) p e in
-    let e4 = and-both (m && l && d && t) o (e5 .0) in
-    let e3 = and-both (m && l && d) t (e4 .0) in
-    let e2 = and-both (m && l) d (e3 .0) in
-    let e1 = and-both m l (e2 .0) in
-    record {
-      marks = eqb-true (length (s .durable .marks)) (12 + 8 * pages) (e1 .0);
-      log = eqb-true (length (s .durable .log)) (14 * span) (e1 .1);
-      stored = eqb-true (length (s .durable .stored)) (size * pages) (e2 .1);
-      tables = eqb-true (length (s .lost .tables)) (35 + frames + pages) (e3 .1);
-      online = eqb-true (length (s .lost .online)) (19 * room) (e4 .1);
-      pool = eqb-true (length (s .lost .pool)) (size * frames) (e5 .1);
-    }
+    let l = lengths-each s size pages frames room span e in
+    record { marks = l .0; log = l .1; stored = l .2; tables = l .3; online = l .4; pool = l .5 }
 
 -- zero bytes: no number is live, and every page is absent
-zero-at : (n i : ℕ) → _≡_ {A = ℕ} (getD (replicate n 0) i 0) 0
-zero-at zero i = refl
-zero-at (suc n) zero = refl
-zero-at (suc n) (suc i) = zero-at n i
-
 lost-new : (size pages last frames : ℕ) (start marks stored pool : List ℕ)
     → LostRight (record { size = size; pages = pages; start = start; base = last }) [] [] (λ (x : ℕ). false) frames marks stored pool [] (replicate 32 0) (replicate pages 0) []
 unfolding every any keep numberedFrom
@@ -72,10 +49,10 @@ lost-new size pages last frames start marks stored pool =
       entries-length = length-replicate {A = ℕ} pages 0;
       lives-length = length-replicate {A = ℕ} 32 0;
       lives-bits = refl;
-      alive = λ x low high. ap (λ (b : ℕ). eqb b 1) (zero-at 32 (x - 1));
-      dirty = λ p below. ap (λ (e : ℕ). isDirty e) (zero-at pages p);
+      alive = λ x low high. ap (λ (b : ℕ). eqb b 1) (blank-at {A = ℕ} 32 (x - 1) 0);
+      dirty = λ p below. ap (λ (e : ℕ). isDirty e) (blank-at {A = ℕ} pages p 0);
       online-is = still;
-      frame = λ p below inside. absurd (false≢true (sym (ap (λ (e : ℕ). inFrame e) (zero-at pages p)) ∙ inside));
+      frame = λ p below inside. absurd (false≢true (sym (ap (λ (e : ℕ). inFrame e) (blank-at {A = ℕ} pages p 0)) ∙ inside));
     }
 
 module _ (s : Lent) (size pages frames room span last : ℕ) (m : last ≤ 4294967295) (ranged : inRange size pages frames room span ≡ true) (exact : exactLengths s size pages frames room span ≡ true) where

@@ -10,12 +10,13 @@ use Rattle.rules.specs.Lent.{Lent, sizeOf, pagesOf, lastOf, onlineOf}
 use Rattle.rules.specs.Sound.{every}
 use Rattle.rules.specs.Calls.{isLive, clashes, held}
 use Rattle.rules.proofs.Extremes.{numberAtMost}
+use Rattle.rules.proofs.Every.{every-keep}
 use Rattle.onlinecheck.proofs.Rows.{every-imp}
 use Rattle.redo.proofs.Loose.{≅-any, ≅-owned}
 use Rattle.redo.proofs.Numbered.{every-not-owned}
 use Rattle.history.specs.Past.{Past}
 use Rattle.history.proofs.Right.{Ground, rowsOf, openOf, aboveStamp, Right}
-use Rattle.history.proofs.Tested.{every-keep, any-behind, keep-behind}
+use Rattle.history.proofs.Tested.{any-behind, keep-behind}
 use Rattle.history.proofs.Facts.{done-committed, done-last}
 use Rattle.history.proofs.Soundly.{live-byte}
 

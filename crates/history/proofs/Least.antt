@@ -9,17 +9,18 @@ use mathlib.Core.List.{List, [], _∷_, _++_}
 use lib.ListN.{length}
 use lib.Dec.{eqb, leb}
 use borrow.Author.Tests.{eqb-true, eqb-false, eq-eqb, leb-true, le-leb, not-true}
+use Rattle.word.proofs.Tests.{and-both, and-in}
 use Rattle.record.specs.Rows.{keep, any}
 use Rattle.record.specs.Record.{pageOf, numberOf, committed, committedOn, smallest}
 use Rattle.rules.specs.Sound.{every, between}
 use Rattle.rules.proofs.Extremes.{hasNumber, smallest-found, smallest-nothing, smallest-some}
-use Rattle.rules.proofs.Every.{or-left, or-right, meet}
-use Rattle.onlinecheck.proofs.Rows.{and-both, every-imp}
+use Rattle.rules.proofs.Every.{or-left, or-right, meet, every-keep}
+use Rattle.onlinecheck.proofs.Rows.{every-imp}
 use Rattle.redo.proofs.Loose.{_≅_, ≅-any, ≅-every}
 use Rattle.redo.proofs.Reader.{every-both}
 use Rattle.seats.proofs.Loops.{any-kept}
 use Rattle.history.proofs.Right.{uncommitted}
-use Rattle.history.proofs.Tested.{and-in, every-front, every-keep, every-picked, picked-every, online-all}
+use Rattle.history.proofs.Tested.{every-front, every-picked, picked-every, online-all}
 
 any-front : (c : List ℕ → Bool) (l m : List (List ℕ)) → any c l ≡ true → any c (l ++ m) ≡ true
 unfolding any

@@ -8,18 +8,18 @@ use mathlib.Core.List.{List, [], _∷_, _++_, map, append-assoc}
 use lib.ListN.{length, length-append, length-map}
 use lib.Seq.{getD-take}
 use lib.Dec.{eqb}
+use Rattle.word.proofs.Tests.{and-both}
 use Rattle.record.specs.Rows.{keep, consIf}
 use Rattle.record.specs.Record.{ownerOf, numberOf, committed, ownedBy, bodyOf, wellFormed}
 use Rattle.table.proofs.Laws.{Wide, none, one, wide-keep, wide-append, wide-bodies}
 use Rattle.rules.specs.Sound.{every, pairs, between, apart}
-use Rattle.rules.proofs.Every.{every-kept, keep-within}
-use Rattle.onlinecheck.proofs.Rows.{and-both, every-imp}
+use Rattle.rules.proofs.Every.{every-kept, keep-within, every-kept-where}
+use Rattle.onlinecheck.proofs.Rows.{every-imp}
 use Rattle.redo.proofs.View.{SameBody, keep-append}
 use Rattle.redo.proofs.Views.{keep-swap, keep-all}
 use Rattle.redo.proofs.Loose.{_≅_, still, then, numberedFrom, ≅-sym, ≅-equal, ≅-before, ≅-keep, ≅-wide, ≅-number, owned-open}
 use Rattle.redo.proofs.Numbered.{body-formed, keep-open-none, keep-others-all, numberedFrom-append, numberedFrom-wide}
 use Rattle.redo.proofs.Commits.{commit-loose, commit-open}
-use Rattle.redo.proofs.Reader.{every-kept-where}
 use Rattle.history.specs.Past.{Past, fresh, begins, updates, commits, aborts, falls, rises}
 use Rattle.history.proofs.Right.{Ground, PastRight, rowsOf, uncommitted, openOf, openRow}
 use Rattle.history.proofs.Tested.{every-append, pairs-keep}

@@ -8,15 +8,16 @@ use mathlib.Core.List.{List, [], append-nil}
 use lib.ListN.{length, drop, replicate, length-drop, length-replicate, getD-replicate}
 use lib.Dec.{eqb, leb, ltb}
 use borrow.Author.Tests.{ltb-true, ltb-false, lt-ltb, le-leb, lt-leb}
+use Rattle.word.proofs.Tests.{and-both}
 use Rattle.record.specs.Rows.{consIf, keep}
 use Rattle.record.specs.Record.{pageOf, numberOf, entered, committed}
 use Rattle.table.proofs.Laws.{Wide, none, one, wide-drop, wide-keep}
 use Rattle.rules.specs.Lent.{Lent, Lost, pagesOf, framesOf, roomOf, closedOf, loggedOf, stampOf, dirtyOf, firstOf}
 use Rattle.rules.specs.Steps.{enters, entering, enteringAll, restarted}
 use Rattle.rules.specs.Sound.{every}
-use Rattle.rules.proofs.Every.{keep-within}
+use Rattle.rules.proofs.Every.{keep-within, every-keep}
 use Rattle.rules.proofs.Needed.{enters-above}
-use Rattle.onlinecheck.proofs.Rows.{and-both, every-imp}
+use Rattle.onlinecheck.proofs.Rows.{every-imp}
 use Rattle.redo.proofs.Loose.{numberedFrom, ≅-equal}
 use Rattle.redo.proofs.Numbered.{entered-page, entered-number, numberedFrom-wide}
 use Rattle.redo.proofs.Views.{keep-same-where}
@@ -27,7 +28,6 @@ use Rattle.history.specs.Past.{Past, falls, rises}
 use Rattle.history.specs.Run.{Fits, afterLoss}
 use Rattle.history.proofs.Right.{Ground, DurableRight, LostRight, Right, Down, rowsOf, aboveStamp}
 use Rattle.history.proofs.Settle.{settle}
-use Rattle.history.proofs.Tested.{every-keep}
 use Rattle.history.proofs.Facts.{done-paged, ranges}
 use Rattle.history.proofs.Pasts.{past-falls, past-rises, open-falls, open-rises}
 

@@ -8,6 +8,7 @@ use mathlib.Core.List.{List}
 use lib.ListN.{length}
 use lib.Dec.{leb, ltb}
 use borrow.Author.Tests.{leb-true, not-false}
+use Rattle.word.proofs.Tests.{and-both}
 use Rattle.record.specs.Rows.{keep}
 use Rattle.record.specs.Record.{isLength, ownedBy}
 use Rattle.rules.specs.declared.Bad.the-variants.{Page, Number, Length, Place, Value, Kind}
@@ -19,7 +20,6 @@ use Rattle.rules.specs.Lent.{Lent, sizeOf, pagesOf, roomOf, spanOf, lastOf, log
 use Rattle.rules.specs.Sound.{between}
 use Rattle.rules.specs.Steps.{owned}
 use Rattle.rules.specs.Calls.{refuseIf, checked, isNumber, isLive, held, mayBegin, mayRead, mayUpdate, mayCommit, mayAbort, judgeBegin, judgeRead, judgeUpdate, judgeCommit, judgeAbort}
-use Rattle.onlinecheck.proofs.Rows.{and-both}
 use Rattle.history.specs.Past.{Past}
 use Rattle.history.specs.Saying.{sayBegin, sayRead, sayUpdate, sayCommit, sayAbort}
 use Rattle.history.proofs.Right.{Ground, Right}

@@ -10,13 +10,14 @@ use lib.ListN.{length, getD, drop}
 use lib.Seq.{getD-drop}
 use lib.Dec.{eqb, leb}
 use borrow.Author.Tests.{eq-eqb, eqb-true, eqb-false, le-leb, leb-true, ltb-true, not-true}
+use Rattle.word.proofs.Tests.{and-both, and-in}
 use Rattle.record.specs.Part.{part}
 use Rattle.record.specs.Rows.{rowAt, rows, keep, any}
 use Rattle.record.specs.Record.{ownerOf, numberOf, committed, bodyOf, onPage, entered, wellFormed, shareByte}
 use Rattle.rules.specs.Lent.{Lent, sizeOf, pagesOf, framesOf, roomOf, spanOf, lastOf, closedOf, loggedOf, stampOf, dirtyOf, firstOf, logOf, countOf, usedOf, liveOf, entriesOf, onlineOf, isDirty}
 use Rattle.rules.specs.Sound.{every, pairs, upTo, zeros, between, inRange, agree, apart, same, owning, exactLengths, s1-parameters, s2-lengths, s3-logged, s16-logged, s18-first, s15-stamps, s17-s19-dirty, s7-log-records, s14-log-zero, soundDurable, s3-counts, s20-live, s4-entries, s5-frame-once, s6-order, s14-order-zero, s7-online-records, s8-owners, s14-online-zero, s10-in-log, s11-above-stamp, s9-number-once, s12-dirty, s13-apart, soundLost, sound}
-use Rattle.rules.proofs.Every.{or-left, or-right}
-use Rattle.onlinecheck.proofs.Rows.{and-both, every-imp}
+use Rattle.rules.proofs.Every.{or-left, or-right, every-keep}
+use Rattle.onlinecheck.proofs.Rows.{every-imp}
 use Rattle.redo.proofs.Order.{free, free-sym, pairs-imp}
 use Rattle.redo.proofs.Views.{rising}
 use Rattle.redo.proofs.Loose.{≅-sym, ≅-pairs-true}
@@ -27,7 +28,7 @@ use Rattle.readback.proofs.Seen.{Areas}
 use Rattle.readback.proofs.Lost.{live-whole}
 use Rattle.history.specs.Past.{Past}
 use Rattle.history.proofs.Right.{Ground, rowsOf, openOf, aboveStamp, DurableRight, Right}
-use Rattle.history.proofs.Tested.{and-in, upTo-all, every-drop, every-append, every-all, every-keep, pairs-keep, same-itself, rows-at, every-numbered}
+use Rattle.history.proofs.Tested.{upTo-all, every-drop, every-append, every-all, pairs-keep, same-itself, rows-at, every-numbered}
 use Rattle.history.proofs.Facts.{done-formed, done-committed, done-rising, open-every, marks-long, stored-long, logged-last, online-every, online-each}
 
 module _ (g : Ground) (done : List (List ℕ)) (s : Lent) (d : DurableRight g done (s .durable)) where

@@ -8,22 +8,19 @@ use mathlib.Core.List.{List, [], _∷_, _++_}
 use lib.ListN.{length, getD, drop}
 use lib.Dec.{eqb}
 use borrow.Author.Tests.{eq-eqb}
+use Rattle.word.proofs.Tests.{and-both, and-in}
 use Rattle.record.specs.Rows.{rowAt, rows, keep, consIf, any}
 use Rattle.record.specs.Record.{entered}
+use Rattle.rules.proofs.Every.{every-kept-where, every-keep}
 use Rattle.table.proofs.Laws.{Wide, none, one}
 use Rattle.rules.specs.Sound.{every, pairs, upTo, same}
-use Rattle.onlinecheck.proofs.Rows.{and-both}
 use Rattle.redo.proofs.View.{keep-append}
 use Rattle.redo.proofs.Views.{keep-none}
 use Rattle.redo.proofs.Loose.{_≅_, numberedFrom, ≅-every}
-use Rattle.redo.proofs.Reader.{every-kept-where}
 use Rattle.seats.proofs.Loops.{any-by}
 use Rattle.seats.proofs.Counting.{upTo-all as upTo-from}
 
--- tests together, and what follows from a test that holds
-pub and-in : (a b : Bool) → a ≡ true → b ≡ true → (a && b) ≡ true
-and-in a b h k = rw (h, k)
-
+-- what follows from a test that holds
 or-of : (a b : Bool) → a ≡ true → (not a || b) ≡ true → b ≡ true
 or-of true b h k = k
 or-of false b h k = let z : _≡_ {A = ℕ} 0 1 = cc in absurd (omega arith)
@@ -58,10 +55,7 @@ every-front c (r ∷ l) m h =
     let e : (c r ≡ true) × (every c (l ++ m) ≡ true) = and-both (c r) (every c (l ++ m)) h in
     and-in (c r) (every c l) (e .0) (every-front c l m (e .1))
 
--- those kept: what all pass, what follows from the test that kept them; and that told of all
-pub every-keep : (a c : List ℕ → Bool) (l : List (List ℕ)) → every c l ≡ true → every c (keep a l) ≡ true
-every-keep a c l h = every-kept-where a c c (λ r e k. k) l h
-
+-- those kept: what follows from the test that kept them; and that told of all
 pub every-picked : (a c : List ℕ → Bool) (l : List (List ℕ)) → every (λ (r : List ℕ). not (a r) || c r) l ≡ true → every c (keep a l) ≡ true
 every-picked a c l h = every-kept-where a (λ (r : List ℕ). not (a r) || c r) c (λ r e k. or-of (a r) (c r) e k) l h
 

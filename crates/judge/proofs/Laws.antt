@@ -1,21 +1,14 @@
--- What a number's test says of it.
+-- Laws of a test that a call answered, of the rows that clash, and of a length that is eight.
 use Prim.Native.Nat.{ℕ, suc, _+_, _-_, _^_, _≤_, _<_}
 use native.Mathlib.Omega.{arith}
 use mathlib.Core.Path.{_≡_, sym, ap, _∙_}
 use mathlib.Core.Bool.{Bool, true, false, not, _&&_, _||_}
 use mathlib.Core.List.{List}
-use lib.Dec.{eqb, leb, ltb}
-use borrow.Author.Tests.{leb-true, eqb-true, ne-eqb, lt-ltb}
+use lib.Dec.{eqb, ltb}
+use borrow.Author.Tests.{eqb-true, ne-eqb, lt-ltb}
 use Rattle.record.specs.Rows.{rowAt, rows, any}
 use Rattle.record.specs.Record.{pageOf, offsetOf, lengthOf, ownerOf, isLength}
-use Rattle.rules.specs.Calls.{isNumber, clashes}
-
-and-right : (a b : Bool) → (a && b) ≡ true → b ≡ true
-and-right true b e = e
-and-right false b e = absurd (mathlib.Core.Bool.false≢true e)
-
-pub number-most : (x : ℕ) → isNumber x ≡ true → x ≤ 32
-number-most x e = leb-true x 32 (and-right (leb 1 x) (leb x 32) e)
+use Rattle.rules.specs.Calls.{clashes}
 
 -- a test's negation from the test's value
 pub turned : (r b t : Bool) → r ≡ b → not r ≡ t → not b ≡ t
@@ -23,10 +16,6 @@ turned r b t e h = ap not (sym e) ∙ h
 
 pub same : (r b t : Bool) → r ≡ b → r ≡ t → b ≡ t
 same r b t e h = sym e ∙ h
-
-pub unturned : (r b : Bool) → r ≡ b → not r ≡ false → b ≡ true
-unturned true b e h = sym e
-unturned false b e h = absurd (mathlib.Core.Bool.false≢true (sym h))
 
 -- a row's clash from its fields
 pub clash-fields : (x p offset w : ℕ) (r : List ℕ) (o g f l : ℕ) → o ≡ ownerOf r → g ≡ pageOf r → f ≡ offsetOf r → l ≡ lengthOf r

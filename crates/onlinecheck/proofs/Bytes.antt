@@ -8,12 +8,14 @@ use lib.ListN.{length, getD, set, replicate, length-set, length-replicate}
 use lib.Seq.{getD-set-same, getD-set-other, set-out}
 use lib.Dec.{eqb, leb, ltb}
 use borrow.Author.Tests.{ltb-true, ltb-false, leb-true, leb-false, eqb-true, eqb-false, lt-ltb, le-ltb, le-leb, eq-eqb, ne-eqb, not-true}
+use Rattle.word.proofs.Tests.{and-both}
 use Rattle.record.specs.Rows.{rowAt, rows, keep, consIf}
 use Rattle.record.specs.Record.{pageOf, offsetOf, lengthOf, ownerOf, numberOf, committed, shareByte, isLength, wellFormed}
 use Rattle.rules.specs.Sound.{every, pairs, upTo, between, apart}
+use Rattle.rules.proofs.Every.{every-kept, every-keep}
 use Rattle.onlinecheck.specs.Online.{owned, pageBelow}
 use Rattle.onlinecheck.specs.Bytes.{openOn, placed, Chain, Linked, Passed, freeByte, markBytes, freeRow, withRow, freeRows, withRows}
-use Rattle.onlinecheck.proofs.Rows.{and-both, and-swap, passed, upTo-fail, upTo-turn, upTo-done}
+use Rattle.onlinecheck.proofs.Rows.{and-swap, passed, upTo-fail, upTo-turn, upTo-done}
 use Rattle.onlinecheck.proofs.Laws.{apart-all}
 use Rattle.onlinecheck.proofs.Chains.{chain-none, chain-one, chain-first}
 
@@ -240,25 +242,6 @@ rows-most top base (r ∷ l) a h k f b =
     let o : ownerOf r ≤ 32 = placed-of r (v .0) .2 in
     rows-most top base l (withRow base a r) h (v .1) (mark-most top (base + ownerOf r) (lengthOf r) (offsetOf r) a (omega arith) f) b
 
--- rows that pass a test, and what all pass
-every-keep : (b d : List ℕ → Bool) (l : List (List ℕ)) → every b l ≡ true → every b (keep d l) ≡ true
-unfolding every keep
-every-keep b d [] h = refl
-every-keep b d (r ∷ l) h = pick (d r) (every-keep b d l (and-both (b r) (every b l) h .1))
-  where
-    pick : (x : Bool) → every b (keep d l) ≡ true → every b (consIf x r (keep d l)) ≡ true
-    pick true k = rw (and-both (b r) (every b l) h .0) k
-    pick false k = k
-
-keep-every : (d : List ℕ → Bool) (l : List (List ℕ)) → every d (keep d l) ≡ true
-unfolding every keep
-keep-every d [] = refl
-keep-every d (r ∷ l) = pick (d r) refl (keep-every d l)
-  where
-    pick : (x : Bool) → d r ≡ x → every d (keep d l) ≡ true → every d (consIf x r (keep d l)) ≡ true
-    pick true e k = rw e k
-    pick false e k = k
-
 -- an uncommitted row is apart from all that are apart from it on its page
 apart-off : (r q : List ℕ) → openOn (pageOf r) q ≡ false → apart r q ≡ true
 unfolding apart shareByte
@@ -306,7 +289,7 @@ pairs-keep d [] h = refl
 pairs-keep d (r ∷ l) h = pick (d r) (pairs-keep d l (and-both (every (apart r) l) (pairs apart l) h .1))
   where
     pick : (x : Bool) → pairs apart (keep d l) ≡ true → pairs apart (consIf x r (keep d l)) ≡ true
-    pick true k = rw (every-keep (apart r) d l (and-both (every (apart r) l) (pairs apart l) h .0)) k
+    pick true k = rw (every-keep d (apart r) l (and-both (every (apart r) l) (pairs apart l) h .0)) k
     pick false k = k
 
 zeros-at : (n b : ℕ) → getD {A = ℕ} (replicate n 0) b 0 ≡ 0
@@ -323,7 +306,7 @@ module _ (t : List ℕ) (m : ℕ) (heads after : List ℕ) (linked : Linked t m 
   page-first : (i p : ℕ) → i < m → p < 1024 → getD heads p 0 ≡ i → pageOf (rowAt 19 t i) ≡ p
   page-first i p h k e =
       let c : Chain t m after 0 i (keep (openOn p) (rows 19 m t 0)) = rw e at (page-chain p k) in
-      eqb-true (pageOf (rowAt 19 t i)) p (and-both (eqb (pageOf (rowAt 19 t i)) p) (not (committed (rowAt 19 t i))) (chain-first (openOn p) h c (keep-every (openOn p) (rows 19 m t 0))) .0)
+      eqb-true (pageOf (rowAt 19 t i)) p (and-both (eqb (pageOf (rowAt 19 t i)) p) (not (committed (rowAt 19 t i))) (chain-first (openOn p) h c (every-kept (openOn p) (openOn p) (λ r e. e) (rows 19 m t 0))) .0)
 
   pass : (i : ℕ) (marks d : List ℕ) → length d ≡ 4096 → ((b : ℕ) → getD d b 0 ≤ (i + 1) * 64) → ((p : ℕ) → p < 1024 → getD heads p 0 ≡ i → pairs apart (keep (openOn p) (rows 19 m t 0)) ≡ true) → Passed t m i heads marks → Passed t m (i + 1) heads d
   pass i marks d n f g w = record { wide = n; most = f; clear = λ p h k. pick p h k (eqb (getD heads p 0) i) refl }
@@ -358,8 +341,8 @@ module _ (t : List ℕ) (m : ℕ) (heads after : List ℕ) (linked : Linked t m 
   pass-first i marks d x h k e f w =
       let b = openOn (pageOf (rowAt 19 t i)) in
       let l = keep b (rows 19 m t 0) in
-      let g : every placed l ≡ true = every-keep placed b (rows 19 m t 0) k in
-      let a : x ≡ pairs apart l = e ∙ rows-apart (pageOf (rowAt 19 t i)) (i * 64) l marks (w .wide) (w .most) (keep-every b (rows 19 m t 0)) g in (
+      let g : every placed l ≡ true = every-keep b placed (rows 19 m t 0) k in
+      let a : x ≡ pairs apart l = e ∙ rows-apart (pageOf (rowAt 19 t i)) (i * 64) l marks (w .wide) (w .most) (every-kept b b (λ r e. e) (rows 19 m t 0)) g in (
         λ y. rw (f y) (pass i marks (withRows (i * 64) marks l) (rows-length (i * 64) l marks ∙ w .wide) (rows-most ((i + 1) * 64) (i * 64) l marks (omega arith) g (λ c. omega (arith, w .most c))) (λ p u v. rw (page-first i p h u v) at (sym a ∙ y)) w),
         λ y. clash b (pairs apart (rows 19 m t 0)) refl (sym a ∙ y),
       )

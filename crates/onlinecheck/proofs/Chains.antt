@@ -8,11 +8,12 @@ use lib.ListN.{length, getD, set, replicate, length-set, length-replicate, getD-
 use lib.Seq.{getD-set-same, getD-set-other}
 use lib.Dec.{eqb}
 use borrow.Author.Tests.{eqb-true, eqb-false, ne-eqb, not-false}
+use Rattle.word.proofs.Tests.{and-both}
 use Rattle.record.specs.Rows.{rowAt, rows, keep, consIf}
 use Rattle.record.specs.Record.{pageOf, ownerOf, committed}
 use Rattle.rules.specs.Sound.{every, pairs, apart}
 use Rattle.onlinecheck.specs.Bytes.{openOn, Chain, ends, goes, Linked, headsWith, afterWith, freeRow, withRow, freeRows, withRows}
-use Rattle.onlinecheck.proofs.Rows.{and-both, passed, failed}
+use Rattle.onlinecheck.proofs.Rows.{passed, failed}
 
 chain-low : {t : List ℕ} {m : ℕ} {a : List ℕ} {low j : ℕ} {l : List (List ℕ)} (down : ℕ) → down ≤ low → Chain t m a low j l → Chain t m a down j l
 chain-low down h (ends e) = ends e

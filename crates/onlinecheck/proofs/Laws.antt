@@ -10,13 +10,14 @@ use lib.Seq.{drop-cons, take-take}
 use lib.Dec.{eqb, leb, ltb}
 use borrow.Author.Tests.{leb-true, eqb-true, eqb-false, le-leb, lt-leb, eq-eqb, ne-eqb}
 use Rattle.word.specs.Word.{num}
+use Rattle.word.proofs.Tests.{and-both}
 use Rattle.record.specs.Part.{part}
 use Rattle.record.specs.Rows.{rowAt, rows}
 use Rattle.record.specs.Record.{pageOf, offsetOf, lengthOf, ownerOf, numberOf, committed, bodyOf, wellFormed, shareByte}
 use Rattle.rules.specs.Lent.{Lent, sizeOf, pagesOf, framesOf, lastOf, loggedOf, countOf}
 use Rattle.rules.specs.Sound.{every, pairs, between, zeros, same, apart, owning, s7-online-records, s8-owners, s14-online-zero, s10-in-log, s11-above-stamp, s9-number-once, s12-dirty, s13-apart}
 use Rattle.onlinecheck.specs.Online.{owned, inLog, aboveStamp, rowTest, otherNumber, entryAgrees, pageBelow, onlineTest}
-use Rattle.onlinecheck.proofs.Rows.{and-both, every-both, every-imp}
+use Rattle.onlinecheck.proofs.Rows.{every-both, every-imp}
 
 -- the test is soundness's clauses about the online table
 pub online-is : (s : Lent) → onlineTest (s .lost .online) (countOf s) (s .durable .log) (loggedOf s) (s .durable .marks) (s .lost .tables) (sizeOf s) (pagesOf s) (framesOf s) (lastOf s) ≡ (s7-online-records s && s8-owners s && s14-online-zero s && s10-in-log s && s11-above-stamp s && s9-number-once s && s12-dirty s && s13-apart s)

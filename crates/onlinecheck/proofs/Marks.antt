@@ -8,6 +8,7 @@ use lib.ListN.{length, getD, set, replicate, length-set, length-replicate, getD-
 use lib.Seq.{getD-set-same, getD-set-other}
 use lib.Dec.{eqb, leb, ltb}
 use borrow.Author.Tests.{ltb-true, leb-true, eqb-true, eqb-false, lt-ltb, eq-eqb, ne-eqb}
+use Rattle.word.proofs.Tests.{and-both}
 use Rattle.record.specs.Part.{part}
 use Rattle.record.specs.Rows.{rowAt, rows, any}
 use Rattle.record.specs.Record.{pageOf, ownerOf, numberOf, committed, bodyOf, onPage, wellFormed}
@@ -16,7 +17,7 @@ use Rattle.rules.specs.Lent.{isDirty}
 use Rattle.rules.specs.Sound.{every, pairs, upTo, between, same, agree}
 use Rattle.onlinecheck.specs.Online.{owned, inLog, otherNumber, entryAgrees, pageBelow}
 use Rattle.onlinecheck.specs.Marks.{markPages, entryMarked, slotted, free, withNumber, allFree}
-use Rattle.onlinecheck.proofs.Rows.{and-both, and-swap, every-imp, passed, failed}
+use Rattle.onlinecheck.proofs.Rows.{and-swap, every-imp, passed, failed}
 use Rattle.onlinecheck.proofs.Laws.{formed-page}
 
 -- S12: a page is marked if it was, or if a row is of it

@@ -5,12 +5,9 @@ use mathlib.Core.Path.{_≡_, refl, sym, _∙_}
 use mathlib.Core.Bool.{Bool, true, false, not, _&&_, and-true, and-false, and-assoc}
 use mathlib.Core.List.{List, [], _∷_}
 use borrow.Author.Tests.{not-true, not-false}
+use Rattle.word.proofs.Tests.{and-both}
 use Rattle.record.specs.Rows.{rowAt, rows}
 use Rattle.rules.specs.Sound.{every, pairs, upTo}
-
-pub and-both : (a b : Bool) → (a && b) ≡ true → (a ≡ true) × (b ≡ true)
-and-both true b h = (refl, h)
-and-both false b h = let z : _≡_ {A = ℕ} 0 1 = cc in absurd (omega arith)
 
 -- what a test's branch tells of the test's definition
 pub passed : {x a : Bool} → x ≡ a → not x ≡ false → a ≡ true

@@ -4,7 +4,7 @@ use native.Mathlib.Omega.{arith}
 use native.Mathlib.Numerals.{add-one}
 use native.Mathlib.Nat.{add-zero, le-refl}
 use mathlib.Core.Path.{_≡_, refl, sym, ap, _∙_}
-use mathlib.Core.Bool.{Bool, true, false, cond, _||_}
+use mathlib.Core.Bool.{Bool, true, false, cond, _||_, or-true, or-false}
 use mathlib.Core.List.{List, [], _∷_, _++_, append-nil}
 use lib.ListN.{length, getD, take, set, replicate, length-append, length-take, length-set, length-replicate, List·getD-eq-default}
 use lib.Seq.{take-suc, take-suc-set, take-set-le, take-all, getD-set-same, getD-set-other}
@@ -13,7 +13,7 @@ use borrow.Author.Tests.{eqb-true, eqb-false}
 use Rattle.order.specs.Order.{named, without, touched, victim, frameFrom, frameFor}
 
 -- a list of one value has that value everywhere
-blank-at : {A : Type 0} (n i : ℕ) (d : A) → getD (replicate n d) i d ≡ d
+pub blank-at : {A : Type 0} (n i : ℕ) (d : A) → getD (replicate n d) i d ≡ d
 blank-at zero i d = refl
 blank-at (suc n) zero d = refl
 blank-at (suc n) (suc i) d = blank-at n i d
@@ -27,10 +27,6 @@ length-without f (g ∷ o) = go (eqb g f) (length-without f o)
     go : (b : Bool) → length (without f o) ≤ length o → length (cond b (without f o) (g ∷ without f o)) ≤ suc (length o)
     go true h = omega arith
     go false h = omega arith
-
-pub length-touched : (f : ℕ) (o : List ℕ) → length (touched f o) ≤ length o + 1
-unfolding touched
-length-touched f o = omega (arith, length-append (without f o) (f ∷ []), length-without f o)
 
 -- a copy from the front, one more element
 pub copy-turn : (t s : List ℕ) (i : ℕ) → i < length s → i < length t → take i s ≡ take i t → take (i + 1) (set s i (getD t i 0)) ≡ take (i + 1) t
@@ -74,14 +70,6 @@ touch-last f o s n p e = rw add-one (take-suc-set s n f p ∙ ap (λ (l : List �
 pub record Marks (m : List Bool) (o : List ℕ) : Type 0 where
   pub long : length m ≡ 256
   pub tells : (f : ℕ) → f < 256 → getD m f false ≡ named f o
-
-or-true : (b : Bool) → (b || true) ≡ true
-or-true true = refl
-or-true false = refl
-
-or-false : (b : Bool) → (b || false) ≡ b
-or-false true = refl
-or-false false = refl
 
 named-last : (f g : ℕ) (o : List ℕ) → named f (o ++ (g ∷ [])) ≡ (named f o || eqb g f)
 unfolding named

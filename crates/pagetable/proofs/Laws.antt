@@ -8,6 +8,7 @@ use lib.Dec.{eqb, leb, ltb}
 use native.Mathlib.Omega.{arith}
 use borrow.Author.Tests.{leb-true}
 use Rattle.word.specs.Word.{num}
+use Rattle.word.proofs.Tests.{and-both}
 use Rattle.record.specs.Part.{part}
 use Rattle.rules.specs.Lent.{Lent, pagesOf, framesOf, roomOf}
 use Rattle.rules.specs.Sound.{every, upTo, zeros, serving, times, s3-counts, s20-live, s4-entries, s5-frame-once, s6-order, s14-order-zero}
@@ -18,18 +19,13 @@ pub tables-is : (s : Lent) → tablesTest (s .lost .tables) (pagesOf s) (framesO
 unfolding tablesTest s3-counts s20-live s4-entries s5-frame-once s6-order s14-order-zero
 tables-is s = refl
 
--- of a true `&&` both are true
-both : (a b : Bool) → (a && b) ≡ true → (a ≡ true) × (b ≡ true)
-both true b h = (refl, h)
-both false b h = let z : _≡_ {A = ℕ} 0 1 = cc in absurd (omega arith)
-
 all-six : (a b c d e f : Bool) → (a && b && c && d && e && f) ≡ true → (a ≡ true) × (b ≡ true) × (c ≡ true) × (d ≡ true) × (e ≡ true) × (f ≡ true)
 all-six a b c d e f h =
-    let h₅ = both (a && b && c && d && e) f h in
-    let h₄ = both (a && b && c && d) e (h₅ .0) in
-    let h₃ = both (a && b && c) d (h₄ .0) in
-    let h₂ = both (a && b) c (h₃ .0) in
-    let h₁ = both a b (h₂ .0) in
+    let h₅ = and-both (a && b && c && d && e) f h in
+    let h₄ = and-both (a && b && c && d) e (h₅ .0) in
+    let h₃ = and-both (a && b && c) d (h₄ .0) in
+    let h₂ = and-both (a && b) c (h₃ .0) in
+    let h₁ = and-both a b (h₂ .0) in
     (h₁ .0, h₁ .1, h₂ .1, h₃ .1, h₄ .1, h₅ .1)
 
 -- what callers want of it
@@ -52,8 +48,8 @@ module _ (tables : List ℕ) (pages frames room : ℕ) (t : tablesTest tables pa
       (upTo (λ (f : ℕ). leb (serving f (entriesIn tables pages frames)) 1) frames 0)
       (every (λ (f : ℕ). ltb f frames) (orderIn tables) && upTo (λ (f : ℕ). eqb (times f (orderIn tables)) (serving f (entriesIn tables pages frames))) frames 0)
       (zeros (part (35 + usedIn tables) (frames - usedIn tables) tables)) t in
-      let k = both (leb (num 2 tables 0) room) (leb (usedIn tables) frames) (h .0) in
-      let o = both (every (λ (f : ℕ). ltb f frames) (orderIn tables)) (upTo (λ (f : ℕ). eqb (times f (orderIn tables)) (serving f (entriesIn tables pages frames))) frames 0) (h .4) in
+      let k = and-both (leb (num 2 tables 0) room) (leb (usedIn tables) frames) (h .0) in
+      let o = and-both (every (λ (f : ℕ). ltb f frames) (orderIn tables)) (upTo (λ (f : ℕ). eqb (times f (orderIn tables)) (serving f (entriesIn tables pages frames))) frames 0) (h .4) in
       record {
         count = leb-true (num 2 tables 0) room (k .0);
         used = leb-true (usedIn tables) frames (k .1);
@@ -85,7 +81,7 @@ test-refused tables pages frames room k e h =
     rw z
 
 used-from : (tables : List ℕ) (frames room : ℕ) (k : Bool) → k ≡ (leb (num 2 tables 0) room && leb (getD tables 2 0) frames) → k ≡ true → getD tables 2 0 ≤ frames
-used-from tables frames room k e h = leb-true (getD tables 2 0) frames (both (leb (num 2 tables 0) room) (leb (getD tables 2 0) frames) (sym e ∙ h) .1)
+used-from tables frames room k e h = leb-true (getD tables 2 0) frames (and-both (leb (num 2 tables 0) room) (leb (getD tables 2 0) frames) (sym e ∙ h) .1)
 
 pub used-fits : (tables : List ℕ) (frames room u : ℕ) (k : Bool) → k ≡ (leb (num 2 tables 0) room && leb (getD tables 2 0) frames) → k ≡ true → u ≡ getD tables 2 0 → u ≤ frames
 used-fits tables frames room u k e h q = omega (arith, q, used-from tables frames room k e h)

@@ -8,20 +8,21 @@ use mathlib.Core.List.{List, [], _∷_, _++_, map}
 use lib.ListN.{length, getD, drop, set, replicate, length-append, length-set, length-map, length-replicate}
 use lib.Dec.{ltb}
 use Rattle.record.specs.Part.{part}
-use Rattle.record.specs.Rows.{rows, table, consIf, keep}
+use Rattle.record.specs.Rows.{rows, table, keep}
 use Rattle.record.specs.Record.{pageOf, apply, applied, onPage, ownedBy, gone, numberRows}
-use Rattle.record.proofs.Parts.{length-part, length-with}
+use Rattle.record.proofs.Parts.{length-part, length-with, one-fits}
+use Rattle.record.proofs.Laws.{either-length}
+use Rattle.rules.proofs.Every.{every-keep}
 use Rattle.apply.proofs.Laws.{length-apply, length-applied}
 use Rattle.order.specs.Order.{without, touched}
 use Rattle.order.proofs.Laws.{length-without}
 use Rattle.table.proofs.Laws.{Wide, none, one, keep-length, wide-keep, wide-append, wide-number, length-number, length-table, rows-table, zeros-table}
 use Rattle.rules.specs.Lent.{Lent, sizeOf, pagesOf, framesOf, roomOf, lastOf, countOf, liveOf, orderOf, entryAt, entryOf, entriesOf, onlineOf, inFrame, frameOf, isDirty, dirtyIn, pageIn, withPage}
-use Rattle.rules.specs.Sound.{every, zeros}
+use Rattle.rules.specs.Sound.{zeros}
 use Rattle.rules.specs.Steps.{begun, freedOf, placeOf, freed, placed, rebuilt, fetchedEntries, fetchedPool, readTables, readStep, updateTables, updated, owned, committing, others, framesFreed, judgedAnew, aborted, evicted, fromFrame, compactedEntry, compactedOrder, unfolded, compacted, closed, enteringAll, restarted, formatted}
-use Rattle.compact.proofs.Laws.{one-fits}
 use Rattle.readback.proofs.Seen.{livesOf, Areas, Reads, Whole}
 use Rattle.seats.proofs.Loops.{judgedEntries, evictedEntries}
-use Rattle.readback.proofs.Tables.{Says, says-count, says-order, says-entries, says-entry, says-live, entry-says, live-says, zeros-replicate, every-both, says-none, pagesBelow, says-judged, says-evicted}
+use Rattle.readback.proofs.Tables.{Says, says-count, says-order, says-entries, says-entry, says-live, entry-says, live-says, zeros-replicate, says-none, pagesBelow, says-judged, says-evicted}
 
 -- what the bytes of the online area say
 record Lists (room : ℕ) (l : List ℕ) (rs : List (List ℕ)) : Type 0 where
@@ -94,10 +95,6 @@ together s order lives entries online t o p =
 -- lengths: the page entries, also after a fetch, an area with a page written, a page that was read and rebuilt, the pool after a fetch
 pub entries-length : (s : Lent) → Areas s → length (entriesOf s) ≡ pagesOf s
 entries-length s a = length-part (35 + framesOf s) (pagesOf s) (s .lost .tables) (omega (arith, a .tables))
-
-either-length : (b : Bool) (n : ℕ) (x y : List ℕ) → length x ≡ n → length y ≡ n → length (cond b x y) ≡ n
-either-length true n x y h k = h
-either-length false n x y h k = k
 
 pub length-fetched : (s : Lent) (p : ℕ) → Areas s → length (fetchedEntries s p) ≡ pagesOf s
 unfolding fetchedEntries placed
@@ -198,19 +195,6 @@ reads-committing s x w h k =
     together (committing s x .lent) (orderOf s) (set (livesOf s) (x - 1) 0) (entriesOf s) rs
     (rw n (says-live (tables-say w) x 0 h k)) (lists-table (roomOf s) rs (wide-number x (lastOf s + 1) (w .wide)) (omega (arith, w .room))) (w .areas .pool)
 
--- a test that all rows pass, those kept pass
-every-if : (b : List ℕ → Bool) (z : Bool) (r : List ℕ) (rs : List (List ℕ)) → b r ≡ true → every b rs ≡ true → every b (consIf z r rs) ≡ true
-unfolding every
-every-if b true r rs h k = rw h k
-every-if b false r rs h k = k
-
-every-keep : (b d : List ℕ → Bool) (rs : List (List ℕ)) → every b rs ≡ true → every b (keep d rs) ≡ true
-unfolding every keep
-every-keep b d [] h = h
-every-keep b d (r ∷ rs) h =
-    let k = every-both b r rs h in
-    every-if b (d r) r (keep d rs) (k .0) (every-keep b d rs (k .1))
-
 -- rows that are kept in the online table
 module _ (s : Lent) (b : List ℕ → Bool) (w : Whole s) where
   kept-fit : length (keep b (onlineOf s)) ≤ roomOf s
@@ -250,7 +234,7 @@ reads-aborted s x w most h k b =
     let q : length o ≤ framesOf s = freed-all-length (framesOf s) (framesOf s) (s .lost .tables) mine (orderOf s) (w .frames) in
     let fit : length rest ≤ roomOf s = kept-fit s (λ (r : List ℕ). not (gone true x 0 r)) w in
     let judged : Says (framesOf s) (pagesOf s) (judgedAnew (framesOf s) rest mine (s .lost .tables)) (length (onlineOf s)) (orderOf s) (livesOf s) (judgedEntries rest mine (entriesOf s)) =
-    says-judged rest mine (s .lost .tables) (orderOf s) (livesOf s) (entriesOf s) (every-keep (λ (r : List ℕ). ltb (pageOf r) (pagesOf s)) (ownedBy x) (onlineOf s) b) (tables-say w) in
+    says-judged rest mine (s .lost .tables) (orderOf s) (livesOf s) (entriesOf s) (every-keep (ownedBy x) (λ (r : List ℕ). ltb (pageOf r) (pagesOf s)) (onlineOf s) b) (tables-say w) in
     together (aborted s x .lent) o (set (livesOf s) (x - 1) 0) (judgedEntries rest mine (entriesOf s)) rest
     (says-live (says-count (says-order judged o q) (length rest) (omega arith)) x 0 h k)
     (lists-kept s (λ (r : List ℕ). not (gone true x 0 r)) w) (w .areas .pool)

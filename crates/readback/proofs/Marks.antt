@@ -5,21 +5,22 @@ use native.Mathlib.Omega.{arith}
 use mathlib.Core.Path.{_≡_, refl, sym, ap, _∙_}
 use mathlib.Core.Bool.{Bool, true, false, cond, _&&_}
 use mathlib.Core.List.{List, [], _∷_}
-use lib.ListN.{length, getD, replicate, length-replicate}
+use lib.ListN.{length, replicate, length-replicate}
 use lib.Dec.{eqb, leb}
 use borrow.Author.Tests.{eqb-true, eqb-false, leb-true, leb-false}
 use Rattle.word.specs.Word.{num, put}
 use Rattle.word.proofs.Laws.{length-put}
 use Rattle.word.proofs.Puts.{num-put, num-put-below, num-put-above}
+use Rattle.word.proofs.Tests.{and-both}
 use Rattle.record.specs.Part.{withPart}
 use Rattle.record.specs.Rows.{keep, consIf}
 use Rattle.record.specs.Record.{pageOf, numberOf, committed, committedOn, lesser, smallest}
 use Rattle.record.proofs.Laws.{num-part}
 use Rattle.record.proofs.Parts.{length-with, getD-with-below, part-with}
+use Rattle.order.proofs.Laws.{blank-at}
 use Rattle.rules.specs.Lent.{Lent, sizeOf, pagesOf, framesOf, roomOf, spanOf, lastOf, closedOf, loggedOf, stampAt, dirtyAt, stampOf, dirtyOf, onlineOf}
 use Rattle.rules.specs.Sound.{every, inRange}
 use Rattle.rules.specs.Steps.{owned, committing, foldable, lowered, droppedBy, closed, stamped, formatted}
-use Rattle.rules.proofs.Every.{both}
 use Rattle.rules.proofs.Extremes.{numberAtMost, lesser-most}
 use Rattle.closing.proofs.Laws.{length-lowered}
 use Rattle.durable.specs.Ranges.{Ranged}
@@ -30,15 +31,10 @@ here : (l : List ℕ) (at v : ℕ) → at + 4 ≤ length l → v ≤ 4294967295 
 here l at v h k = let k′ : v < 4294967296 = omega arith in num-put 4 l at v h k′
 
 -- zero bytes hold the number 0
-byte-zeros : (n i : ℕ) → _≡_ {A = ℕ} (getD (replicate n 0) i 0) 0
-byte-zeros zero i = refl
-byte-zeros (suc n) zero = refl
-byte-zeros (suc n) (suc i) = byte-zeros n i
-
-num-zeros : (k n i : ℕ) → num k (replicate n 0) i ≡ 0
+pub num-zeros : (k n i : ℕ) → num k (replicate n 0) i ≡ 0
 unfolding num
 num-zeros zero n i = refl
-num-zeros (suc k) n i = rw (byte-zeros n i, num-zeros k n (i + 1))
+num-zeros (suc k) n i = rw (blank-at {A = ℕ} n i 0, num-zeros k n (i + 1))
 
 -- a number before a part that is written
 num-with-below : (k a m : ℕ) (l ys : List ℕ) (i : ℕ) → a ≤ length l → i + k ≤ a → num k (withPart a m l ys) i ≡ num k l i
@@ -99,7 +95,7 @@ lowered-dirty : (pages : ℕ) (rs : List (List ℕ)) (ms : List ℕ) (p : ℕ) �
 unfolding lowered keep every smallest
 lowered-dirty pages [] ms p h k b = refl
 lowered-dirty pages (r ∷ rs) ms p h k b =
-    let e = both (numberAtMost 4294967295 r) (every (numberAtMost 4294967295) rs) b in
+    let e = and-both (numberAtMost 4294967295 r) (every (numberAtMost 4294967295) rs) b in
     let x : List ℕ = cond (committed r) (put 4 ms (dirtyAt pages (pageOf r)) (lesser (num 4 ms (dirtyAt pages (pageOf r))) (numberOf r))) ms in
     let n : length x ≡ length ms = length-lowered pages (r ∷ []) ms in
     lowered-dirty pages rs x p (n ∙ h) k (e .1) ∙ lowered-one pages ms p r (keep (committedOn p) rs) h k (leb-true (numberOf r) 4294967295 (e .0))

@@ -10,9 +10,8 @@ use lib.Seq.{length-take-le, take-append-le, drop-append-le, drop-drop}
 use lib.Dec.{ltb}
 use borrow.Author.Tests.{ltb-true, ltb-false}
 use Rattle.record.specs.Part.{part, withPart}
-use Rattle.record.proofs.Parts.{length-part, length-with, drop-with, part-with}
+use Rattle.record.proofs.Parts.{length-part, length-with, drop-with, part-with, one-fits}
 use Rattle.rules.specs.Lent.{pageIn, withPage}
-use Rattle.compact.proofs.Laws.{one-fits}
 
 -- a part of the front
 part-front : (b j : ℕ) (xs ys : List ℕ) → b + j ≤ length xs → part b j (xs ++ ys) ≡ part b j xs

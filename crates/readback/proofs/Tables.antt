@@ -4,24 +4,26 @@ use Prim.Native.Nat.{ℕ, zero, suc, _+_, _-_, _≤_, _<_}
 use native.Mathlib.Omega.{arith}
 use mathlib.Core.Path.{_≡_, refl, sym, ap, _∙_}
 use mathlib.Core.Logic.{_⊎_, inl, inr}
-use mathlib.Core.Bool.{Bool, true, false, cond}
+use mathlib.Core.Bool.{Bool, true, cond}
 use mathlib.Core.List.{List, [], _∷_, _++_}
-use lib.ListN.{length, getD, take, drop, set, replicate, length-append, length-set, length-replicate, replicate-append-replicate}
-use lib.Seq.{take-take, take-at, take-all, take-append-add, drop-at, drop-drop, take-set-le, drop-set-lt, getD-set-same, length-take-le}
+use lib.ListN.{length, getD, take, drop, set, replicate, length-append, length-set, length-replicate}
+use lib.Seq.{take-at, take-all, take-append-add, drop-at, drop-drop, take-set-le, drop-set-lt, getD-set-same, length-take-le}
 use lib.Dec.{ltb}
 use borrow.Author.Tests.{ltb-true}
 use Rattle.word.specs.Word.{num, put}
 use Rattle.word.proofs.Laws.{length-put}
 use Rattle.word.proofs.Puts.{num-put, drop-put, take-put}
+use Rattle.word.proofs.Tests.{and-both}
 use Rattle.record.specs.Part.{part, withPart}
 use Rattle.record.specs.Rows.{any}
 use Rattle.record.specs.Record.{pageOf, onPage}
-use Rattle.record.proofs.Laws.{getD-part, num-front}
-use Rattle.record.proofs.Parts.{length-with, drop-with, part-with, part-set}
+use Rattle.record.proofs.Laws.{getD-part, num-front, drop-zeros}
+use Rattle.record.proofs.Parts.{length-with, drop-with, part-with, part-set, part-front, part-inner}
 use Rattle.rules.specs.Lent.{liveAt, entryAt, withOrder, withEntries, withCount}
 use Rattle.rules.specs.Sound.{every, zeros}
 use Rattle.rules.specs.Steps.{judgedAnew, evictedAll}
 use Rattle.seats.proofs.Loops.{judgedEntries, evictedEntries}
+use Rattle.readback.proofs.Marks.{num-zeros}
 
 -- count of online rows, use order, live bytes and page entries that are read in tables t
 pub record Says (frames pages : ℕ) (t : List ℕ) (count : ℕ) (order lives entries : List ℕ) : Type 0 where
@@ -33,16 +35,6 @@ pub record Says (frames pages : ℕ) (t : List ℕ) (count : ℕ) (order lives e
   pub order-zero : zeros (part (35 + length order) (frames - length order) t) ≡ true
   pub lives-read : part 3 32 t ≡ lives
   pub entries-read : part (35 + frames) pages t ≡ entries
-
--- a part of the first bytes, and a part of a part
-part-front : (a b n : ℕ) (l : List ℕ) → b + n ≤ a → part b n (take a l) ≡ part b n l
-part-front a zero n l h = take-take n a l (omega arith)
-part-front zero (suc b) n l h = absurd (omega arith)
-part-front (suc a) (suc b) n [] h = refl
-part-front (suc a) (suc b) n (x ∷ l) h = part-front a b n l (omega arith)
-
-part-inner : (a k b n : ℕ) (l : List ℕ) → b + n ≤ k → part b n (part a k l) ≡ part (a + b) n l
-part-inner a k b n l h = part-front k b n (drop a l) h ∙ ap (λ (x : List ℕ). take n x) (drop-drop b a l)
 
 -- u is t with no byte changed but the k bytes from a on
 record Within (a k : ℕ) (t u : List ℕ) : Type 0 where
@@ -94,25 +86,16 @@ take-replicate zero n h = refl
 take-replicate (suc k) zero h = absurd (omega arith)
 take-replicate (suc k) (suc n) h = ap (λ (l : List ℕ). 0 ∷ l) (take-replicate k n (omega arith))
 
-drop-replicate : (k n : ℕ) → _≡_ {A = List ℕ} (drop k (replicate (k + n) 0)) (replicate n 0)
-drop-replicate k n =
-    ap (λ (l : List ℕ). drop k l) (sym (replicate-append-replicate k n 0)) ∙ drop-at (replicate k 0) (replicate n 0) k (length-replicate {A = ℕ} k 0)
-
 part-replicate : (a k n : ℕ) → a + k ≤ n → part a k (replicate n 0) ≡ replicate k 0
 part-replicate a k n h =
-    let e : n ≡ a + (n - a) = omega arith in
-    ap (λ (i : ℕ). part a k (replicate i 0)) e ∙ ap (λ (l : List ℕ). take k l) (drop-replicate a (n - a)) ∙ take-replicate k (n - a) (omega arith)
-
-num-zeros : (n : ℕ) → 2 ≤ n → num 2 (replicate n 0) 0 ≡ 0
-unfolding num
-num-zeros n h = sym (num-front 2 0 2 (replicate n 0) (omega arith)) ∙ ap (λ (x : List ℕ). num 2 x 0) (part-replicate 0 2 n (omega arith))
+    ap (λ (l : List ℕ). take k l) (drop-zeros n a) ∙ take-replicate k (n - a) (omega arith)
 
 -- tables of zeros: no online row, no frame in use, no number live, every page absent
 pub says-none : (frames pages : ℕ) → Says frames pages (replicate (35 + frames + pages) 0) 0 [] (replicate 32 0) (replicate pages 0)
 says-none frames pages =
     record {
       long = length-replicate {A = ℕ} (35 + frames + pages) 0;
-      count-read = num-zeros (35 + frames + pages) (omega arith);
+      count-read = num-zeros 2 (35 + frames + pages) 0;
       used = sym (getD-part 0 2 1 (replicate (35 + frames + pages) 0) (omega arith)) ∙ ap (λ (x : List ℕ). getD x 0 0) (part-replicate 2 1 (35 + frames + pages) (omega arith));
       fits = omega arith;
       order-read = refl;
@@ -263,18 +246,10 @@ module _ {frames pages : ℕ} {t : List ℕ} {count : ℕ} {order lives entries 
 abbrev pub pagesBelow : ℕ → List (List ℕ) → Bool
 pagesBelow pages rs = every (λ (r : List ℕ). ltb (pageOf r) pages) rs
 
--- the first row and the others
-pub every-both : (b : List ℕ → Bool) (r : List ℕ) (rs : List (List ℕ)) → every b (r ∷ rs) ≡ true → (b r ≡ true) × (every b rs ≡ true)
-unfolding every
-every-both b r rs e = go (b r) refl
-  where
-    go : (z : Bool) → b r ≡ z → (b r ≡ true) × (every b rs ≡ true)
-    go true d = (d, rw d at e)
-    go false d = let w : false ≡ true = rw d at e in let z : _≡_ {A = ℕ} 0 1 = cc in absurd (omega arith)
-
 below-both : (pages : ℕ) (r : List ℕ) (rs : List (List ℕ)) → pagesBelow pages (r ∷ rs) ≡ true → (pageOf r < pages) × (pagesBelow pages rs ≡ true)
+unfolding every
 below-both pages r rs e =
-    let k = every-both (λ (q : List ℕ). ltb (pageOf q) pages) r rs e in
+    let k = and-both (ltb (pageOf r) pages) (pagesBelow pages rs) e in
     (ltb-true (pageOf r) pages (k .0), k .1)
 
 -- pages judged anew by the rows that remain

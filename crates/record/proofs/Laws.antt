@@ -1,16 +1,19 @@
--- Laws of parts and of a record's fields.
-use Prim.Native.Nat.{ℕ, zero, suc, _+_, _≤_, _<_}
+-- Laws of parts, of zero bytes and of a record's fields.
+use Prim.Native.Nat.{ℕ, zero, suc, _+_, _-_, _≤_, _<_}
 use native.Mathlib.Omega.{arith}
 use native.Mathlib.Nat.{min-eq-left, min-eq-right}
 use mathlib.Core.Path.{_≡_, refl, sym, ap, _∙_}
-use mathlib.Core.List.{List}
-use lib.ListN.{length, getD, drop, set}
-use lib.Seq.{getD-take, getD-drop, getD-set-same}
-use borrow.Author.Tests.{eq-eqb, ne-eqb}
+use mathlib.Core.Bool.{Bool, true, false, cond, _||_}
+use mathlib.Core.List.{List, _++_, append-nil}
+use lib.ListN.{length, getD, drop, set, replicate}
+use lib.Seq.{getD-take, getD-drop, getD-set-same, drop-length}
+use lib.Dec.{eqb}
+use borrow.Author.Tests.{eq-eqb, ne-eqb, eqb-true}
+use borrow.Author.Fill.{fill-more}
 use Rattle.word.specs.Word.{num}
 use Rattle.word.proofs.Puts.{getD-put-below}
 use Rattle.record.specs.Part.{part}
-use Rattle.record.specs.Record.{ownerOf, numbered, lesser}
+use Rattle.record.specs.Record.{ownerOf, numbered, lesser, isLength}
 
 -- a byte of a part is a byte of the whole
 pub getD-part : (c a w : ℕ) (t : List ℕ) → c < w → getD (part a w t) c 0 ≡ getD t (a + c) 0
@@ -34,6 +37,26 @@ num-front k a w t h =
     let e : a + 0 ≡ a = omega arith in
     num-part k 0 a w t h₁ ∙ ap (λ (x : ℕ). num k t x) e
 
+-- one of two lists, which are as long
+pub either-length : (b : Bool) (n : ℕ) (x y : List ℕ) → length x ≡ n → length y ≡ n → length (cond b x y) ≡ n
+either-length true n x y h k = h
+either-length false n x y h k = k
+
+-- zero bytes behind the first ones
+pub drop-zeros : (n k : ℕ) → drop {A = ℕ} k (replicate n 0) ≡ replicate (n - k) 0
+drop-zeros n zero = let e : n - 0 ≡ n = omega arith in rw e
+drop-zeros zero (suc k) = let e : 0 - suc k ≡ 0 = omega arith in rw e
+drop-zeros (suc n) (suc k) = let e : suc n - suc k ≡ n - k = omega arith in rw e (drop-zeros n k)
+
+-- a loop that writes zeros from the front: a turn and the end
+pub wipe-turn : (i : ℕ) (d l : List ℕ) → i < length d → l ≡ replicate i 0 ++ drop i d → set l i 0 ≡ replicate (i + 1) 0 ++ drop (i + 1) d
+wipe-turn i d l h e = ap (λ (x : List ℕ). set x i 0) e ∙ fill-more i 0 d h
+
+pub wipe-end : (i : ℕ) (d l : List ℕ) → i ≤ length d → length d ≤ i → l ≡ replicate i 0 ++ drop i d → l ≡ replicate (length d) 0
+wipe-end i d l p q e =
+    let h : i ≡ length d = omega arith in
+    e ∙ ap (λ (k : ℕ). replicate k 0 ++ drop k d) h ∙ ap (λ (x : List ℕ). replicate (length d) 0 ++ x) (drop-length d) ∙ append-nil (replicate (length d) 0)
+
 -- the smaller of two numbers, where 0 is none: none so far, the old one, the new one
 pub lesser-none : (a b : ℕ) → a ≡ 0 → b ≡ lesser a b
 unfolding lesser
@@ -51,3 +74,15 @@ lesser-new a b h k = let k′ : b ≤ a = omega arith in rw (ne-eqb a 0 h) (sym 
 pub numbered-owner : (r : List ℕ) (k : ℕ) → length r ≡ 19 → ownerOf (numbered r k) ≡ 0
 unfolding numbered
 numbered-owner r k h = getD-put-below 4 (set r 14 0) 15 k 14 (omega arith) ∙ getD-set-same r 14 0 0 (omega arith)
+
+-- "length (1, 2, 4 or 8)"
+or-four : (a b c d : Bool) (n : ℕ) → (a ≡ true → n ≤ 8) → (b ≡ true → n ≤ 8) → (c ≡ true → n ≤ 8) → (d ≡ true → n ≤ 8) → (a || b || c || d) ≡ true → n ≤ 8
+or-four true b c d n f g h k e = f refl
+or-four false true c d n f g h k e = g refl
+or-four false false true d n f g h k e = h refl
+or-four false false false d n f g h k e = k e
+
+pub length-most : (w : ℕ) → isLength w ≡ true → w ≤ 8
+unfolding isLength
+length-most w e =
+    or-four (eqb w 1) (eqb w 2) (eqb w 4) (eqb w 8) w (λ h. omega (arith, eqb-true w 1 h)) (λ h. omega (arith, eqb-true w 2 h)) (λ h. omega (arith, eqb-true w 4 h)) (λ h. omega (arith, eqb-true w 8 h)) e

@@ -1,10 +1,11 @@
--- Laws of a list with another part: its length, what is before the part, the part itself, what is behind it.
-use Prim.Native.Nat.{ℕ, _+_, _-_, _≤_, _<_}
+-- Laws of a list with another part: its length, what is before the part, the part itself, what is behind it. And of a part of a part.
+use Prim.Native.Nat.{ℕ, zero, suc, _+_, _*_, _-_, _≤_, _<_}
 use native.Mathlib.Omega.{arith}
+use native.Mathlib.Nat.{add-mul, one-mul, mul-comm, mul-le-mul}
 use mathlib.Core.Path.{_≡_, refl, sym, ap, _∙_}
-use mathlib.Core.List.{List, _++_, append-assoc}
+use mathlib.Core.List.{List, [], _∷_, _++_, append-assoc}
 use lib.ListN.{length, getD, take, drop, set, length-append, length-drop, List·getD-append}
-use lib.Seq.{getD-take, drop-set-add, take-set-lt, take-at, drop-at, drop-drop, length-take-le}
+use lib.Seq.{getD-take, drop-set-add, take-set-lt, take-at, drop-at, drop-drop, length-take-le, take-take}
 use Rattle.record.specs.Part.{part, withPart}
 
 -- a list with another part from a to b: up to b, from b on, in all
@@ -36,6 +37,14 @@ module _ (a k b : ℕ) (l x ys : List ℕ) (h : a + k ≤ length l) (q : length 
 pub length-part : (a k : ℕ) (l : List ℕ) → a + k ≤ length l → length (part a k l) ≡ k
 length-part a k l h = let g : k ≤ length (drop a l) = rw (length-drop a l) (omega arith) in length-take-le k (drop a l) g
 
+-- a page or a frame of a row of them
+pub one-fits : (p pages size n : ℕ) → p < pages → n ≡ size * pages → p * size + size ≤ n
+one-fits p pages size n h e =
+    let k : (p + 1) * size ≤ pages * size = mul-le-mul {n₁ = p + 1} {m₁ = size} {n₂ = pages} {m₂ = size} (omega arith) (omega arith) in
+    let f : (p + 1) * size ≡ p * size + size = add-mul p 1 size ∙ ap (λ (x : ℕ). p * size + x) (one-mul size) in
+    let g : size * pages ≡ pages * size = mul-comm size pages in
+    omega arith
+
 pub length-with : (a k : ℕ) (l ys : List ℕ) → a + k ≤ length l → length ys ≡ k → length (withPart a k l ys) ≡ length l
 length-with a k l ys h q = with-length a k (a + k) l (withPart a k l ys) ys h q refl refl
 
@@ -55,3 +64,13 @@ part-with a k l ys h q =
 -- an element that is set within a part
 pub part-set : (a k : ℕ) (l : List ℕ) (i v : ℕ) → i < k → part a k (set l (a + i) v) ≡ set (part a k l) i v
 part-set a k l i v h = ap (λ (x : List ℕ). take k x) (drop-set-add a l i v) ∙ take-set-lt k (drop a l) i v h
+
+-- a part of the first bytes, and a part of a part
+pub part-front : (a b n : ℕ) (l : List ℕ) → b + n ≤ a → part b n (take a l) ≡ part b n l
+part-front a zero n l h = take-take n a l (omega arith)
+part-front zero (suc b) n l h = absurd (omega arith)
+part-front (suc a) (suc b) n [] h = refl
+part-front (suc a) (suc b) n (x ∷ l) h = part-front a b n l (omega arith)
+
+pub part-inner : (a k b n : ℕ) (l : List ℕ) → b + n ≤ k → part b n (part a k l) ≡ part (a + b) n l
+part-inner a k b n l h = part-front k b n (drop a l) h ∙ ap (λ (x : List ℕ). take n x) (drop-drop b a l)

@@ -9,11 +9,11 @@ use lib.ListN.{length}
 use lib.Seq.{length-take-le}
 use lib.Dec.{eqb}
 use borrow.Author.Tests.{eqb-true, not-true}
+use Rattle.word.proofs.Tests.{and-both}
 use Rattle.record.specs.Rows.{keep, consIf}
 use Rattle.record.specs.Record.{ownerOf, committed, ownedBy, bodyOf, numbered, entered, numberRows}
 use Rattle.table.proofs.Laws.{Wide, none, one}
 use Rattle.rules.specs.Sound.{every, pairs, apart}
-use Rattle.onlinecheck.proofs.Rows.{and-both}
 use Rattle.redo.proofs.Order.{free}
 use Rattle.redo.proofs.View.{body-free, entered-body}
 use Rattle.redo.proofs.Loose.{loose, make-loose, _≅_, still, exchange, under, then, numberedFrom, ≅-equal, ≅-after, owned-open}

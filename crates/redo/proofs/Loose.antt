@@ -7,11 +7,11 @@ use mathlib.Core.Bool.{Bool, true, false, cond, _&&_, _||_, or-comm, or-true, tr
 use mathlib.Core.List.{List, [], _∷_, _++_}
 use lib.ListN.{length}
 use borrow.Author.Tests.{eqb-true, ne-eqb}
+use Rattle.word.proofs.Tests.{and-both}
 use Rattle.record.specs.Rows.{keep, consIf, any}
 use Rattle.record.specs.Record.{ownerOf, committed, ownedBy, entered, numbered, numberRows}
 use Rattle.table.proofs.Laws.{Wide, one}
 use Rattle.rules.specs.Sound.{every, pairs}
-use Rattle.onlinecheck.proofs.Rows.{and-both}
 use Rattle.redo.proofs.Order.{free, free-sym, _≈_, as-is, swap, behind, both}
 use Rattle.redo.proofs.View.{body-free, numbered-body}
 

@@ -6,11 +6,13 @@ use mathlib.Core.Bool.{Bool, true, false, cond, not, _&&_, _||_, and-comm}
 use mathlib.Core.List.{List, [], _∷_, _++_}
 use lib.Dec.{eqb, ltb}
 use borrow.Author.Tests.{eqb-true, eqb-false, eq-eqb, ne-eqb, not-true}
+use Rattle.word.proofs.Tests.{and-both}
 use Rattle.record.specs.Rows.{keep, consIf}
 use Rattle.record.specs.Record.{pageOf, offsetOf, lengthOf, apply, applied, shareByte}
+use Rattle.rules.proofs.Every.{every-kept-where}
 use Rattle.apply.proofs.Laws.{applied-keep}
 use Rattle.rules.specs.Sound.{every, pairs}
-use Rattle.onlinecheck.proofs.Rows.{and-both, every-imp}
+use Rattle.onlinecheck.proofs.Rows.{every-imp}
 use Rattle.redo.proofs.Commute.{apply-commutes}
 
 -- two records that may be applied in either order: on different pages, or on one with no byte in common
@@ -86,17 +88,6 @@ unfolding every
 abbrev pub parts : (List ℕ → Bool) → List ℕ → List ℕ → Bool
 parts b x y = b x || not (b y) || free x y
 
-every-kept : (b : List ℕ → Bool) (x : List ℕ) (l : List (List ℕ)) → b x ≡ false → every (parts b x) l ≡ true → every (free x) (keep b l) ≡ true
-unfolding every keep
-every-kept b x [] e h = refl
-every-kept b x (y ∷ l) e h =
-    let s : (parts b x y ≡ true) × (every (parts b x) l ≡ true) = and-both (parts b x y) (every (parts b x) l) h in
-    pick (b y) (ap (λ (q : Bool). q || not (b y) || free x y) (sym e) ∙ s .0) (every-kept b x l e (s .1))
-  where
-    pick : (t : Bool) → (false || not t || free x y) ≡ true → every (free x) (keep b l) ≡ true → every (free x) (consIf t y (keep b l)) ≡ true
-    pick true p q = rw (p, q)
-    pick false p q = q
-
 -- those that pass a test before those that fail it, each in their order, if who fails is free of each later one that passes
 pub stable-partition : (b : List ℕ → Bool) (l : List (List ℕ)) → pairs (parts b) l ≡ true → l ≈ keep b l ++ keep (λ (x : List ℕ). not (b x)) l
 unfolding pairs keep
@@ -108,9 +99,12 @@ stable-partition b (x ∷ l) h =
     rest : List (List ℕ)
     rest = keep (λ (y : List ℕ). not (b y)) l
 
+    later : (y : List ℕ) → b y ≡ true → parts b x y ≡ true → b x ≡ false → free x y ≡ true
+    later y p q e = rw (e, p) at q
+
     pick : (t : Bool) → b x ≡ t → every (parts b x) l ≡ true → x ∷ l ≈ x ∷ keep b l ++ rest → x ∷ l ≈ consIf t x (keep b l) ++ consIf (not t) x rest
     pick true e f i = i
-    pick false e f i = both i (≈-move x (keep b l) rest (every-kept b x l e f))
+    pick false e f i = both i (≈-move x (keep b l) rest (every-kept-where b (parts b x) (free x) (λ y p q. later y p q e) l f))
 
 -- a test of each two implies another
 pub pairs-imp : (b d : List ℕ → List ℕ → Bool) → ((x y : List ℕ) → b x y ≡ true → d x y ≡ true) → (l : List (List ℕ)) → pairs b l ≡ true → pairs d l ≡ true

@@ -10,15 +10,17 @@ use lib.Seq.{ext-getD, getD-take, getD-drop}
 use lib.Dec.{eqb, leb, ltb}
 use borrow.Author.Tests.{eqb-true, eqb-false, ne-eqb, not-true}
 use Rattle.word.specs.Word.{num}
+use Rattle.word.proofs.Tests.{and-both}
 use Rattle.record.specs.Part.{part}
-use Rattle.record.specs.Rows.{keep, consIf, any}
+use Rattle.record.specs.Rows.{keep, any}
 use Rattle.record.specs.Record.{pageOf, offsetOf, lengthOf, kindOf, valueOf, ownerOf, numberOf, committed, apply, applied, onPage, committedOn, ownedBy, shareByte}
 use Rattle.record.proofs.Parts.{length-part}
+use Rattle.rules.proofs.Every.{every-kept-where}
 use Rattle.apply.proofs.Laws.{length-applied}
 use Rattle.rules.specs.Lent.{stampAt}
 use Rattle.rules.specs.Sound.{every, pairs, apart}
 use Rattle.rules.specs.Calls.{clashes}
-use Rattle.onlinecheck.proofs.Rows.{and-both, every-imp}
+use Rattle.onlinecheck.proofs.Rows.{every-imp}
 use Rattle.redo.proofs.Bytes.{Agree, change-outside}
 use Rattle.redo.proofs.Commute.{Disjoint, ranges, disjoint-outside}
 use Rattle.redo.proofs.Order.{_≈_, as-is, swap, behind, both, free, parts, ≈-picked, stable-partition}
@@ -53,18 +55,6 @@ none-each b (r ∷ l) h = pick (b r) h (none-each b l)
     pick : (t : Bool) → (t || any b l) ≡ false → (any b l ≡ false → every (λ (x : List ℕ). not (b x)) l ≡ true) → (not t && every (λ (x : List ℕ). not (b x)) l) ≡ true
     pick true e f = let z : _≡_ {A = ℕ} 0 1 = cc in absurd (omega arith)
     pick false e f = f e
-
--- of rows that all pass one test, those that pass another
-pub every-kept-where : (b c d : List ℕ → Bool) → ((r : List ℕ) → b r ≡ true → c r ≡ true → d r ≡ true) → (l : List (List ℕ)) → every c l ≡ true → every d (keep b l) ≡ true
-unfolding every keep
-every-kept-where b c d f [] h = refl
-every-kept-where b c d f (r ∷ l) h =
-    let s : (c r ≡ true) × (every c l ≡ true) = and-both (c r) (every c l) h in
-    pick (b r) refl (s .0) (every-kept-where b c d f l (s .1))
-  where
-    pick : (t : Bool) → b r ≡ t → c r ≡ true → every d (keep b l) ≡ true → every d (consIf t r (keep b l)) ≡ true
-    pick true e g i = rw (f r e g) i
-    pick false e g i = i
 
 -- the bytes of a part, one by one
 pub part-agree : (a k : ℕ) (g h : List ℕ) → length g ≡ length h → a + k ≤ length g → Agree a k g h → part a k g ≡ part a k h

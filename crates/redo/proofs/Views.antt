@@ -8,11 +8,11 @@ use mathlib.Core.List.{List, [], _∷_, _++_}
 use lib.Dec.{leb, ltb}
 use borrow.Author.Tests.{ltb-true, ltb-false, leb-false, le-leb, lt-leb, eqb-true, not-true}
 use Rattle.word.specs.Word.{num}
+use Rattle.word.proofs.Tests.{and-both}
 use Rattle.record.specs.Rows.{keep, consIf}
 use Rattle.record.specs.Record.{pageOf, numberOf, applied, onPage}
 use Rattle.rules.specs.Lent.{stampAt}
 use Rattle.rules.specs.Sound.{every, pairs}
-use Rattle.onlinecheck.proofs.Rows.{and-both}
 use Rattle.redo.proofs.Order.{pairs-imp}
 use Rattle.redo.proofs.View.{applied-append, keep-append}
 

@@ -1,20 +1,20 @@
 -- The loop that enters rows: what holds after i log rows, at the start, after a turn and at the end.
-use Prim.Native.Nat.{ℕ, zero, suc, _+_, _*_, _-_, _≤_, _<_}
+use Prim.Native.Nat.{ℕ, _+_, _*_, _-_, _≤_, _<_}
 use native.Mathlib.Omega.{arith}
 use mathlib.Core.Path.{_≡_, refl, sym, ap, _∙_}
 use mathlib.Core.Bool.{Bool, true, false, cond}
 use mathlib.Core.List.{List, [], _∷_, _++_, append-assoc, append-nil}
-use lib.ListN.{length, take, drop, set, replicate, take-append-drop, length-append, length-set, length-drop, length-replicate}
-use lib.Seq.{drop-drop, length-take-le}
+use lib.ListN.{length, take, drop, set, replicate, take-append-drop, length-set, length-replicate}
+use lib.Seq.{drop-drop}
 use Rattle.word.specs.Word.{num, put}
-use Rattle.word.proofs.Laws.{length-put}
 use Rattle.record.specs.Part.{withPart}
 use Rattle.record.specs.Rows.{rowAt, rows, joined, table}
 use Rattle.record.specs.Record.{pageOf, entered}
 use Rattle.record.proofs.Parts.{with-take, with-drop, with-length}
+use Rattle.record.proofs.Laws.{drop-zeros}
 use Rattle.rules.specs.Lent.{Lent, entryAt, framesOf, roomOf}
 use Rattle.rules.specs.Steps.{lostNow, enteringAll, evictedAll, restarted}
-use Rattle.table.proofs.Laws.{joined-cons}
+use Rattle.table.proofs.Laws.{joined-cons, row-length, length-entered}
 use Rattle.restart.specs.Enter.{entersBy, enteringBy, firstBy, allBy, Readable, Restarts}
 use Rattle.restart.proofs.Laws.{rest, rest-start, rest-yes, rest-no, rest-end, all-read, all-by, readable}
 
@@ -24,10 +24,6 @@ unfolding entered put num
 entered-page [] k = refl
 entered-page (x ∷ []) k = refl
 entered-page (x ∷ y ∷ b) k = refl
-
-entered-length : (b : List ℕ) (k : ℕ) → length b ≡ 14 → length (entered b k) ≡ 19
-unfolding entered
-entered-length b k h = length-put 4 (b ++ replicate 5 0) 15 k ∙ length-append b (replicate 5 0) ∙ ap (λ (n : ℕ). n + 5) h
 
 evicted-cons : (frames : ℕ) (r : List ℕ) (rs : List (List ℕ)) (t : List ℕ) → evictedAll frames (r ∷ rs) t ≡ evictedAll frames rs (set t (entryAt frames (pageOf r)) 1)
 unfolding evictedAll
@@ -40,11 +36,6 @@ evicted-nil frames t = refl
 joined-nil : joined [] ≡ []
 unfolding joined
 joined-nil = refl
-
-row-length : (log : List ℕ) (i : ℕ) → i * 14 + 14 ≤ length log → length (rowAt 14 log i) ≡ 14
-row-length log i h =
-    let g : 14 ≤ length (drop (i * 14) log) = rw (length-drop (i * 14) log) (omega arith) in
-    length-take-le 14 (drop (i * 14) log) g
 
 -- `enter_one`: the test picks the side
 pub one-no : (z : Bool) (m : ℕ) (t t′ o o′ : List ℕ) → z ≡ false → (m ≡ cond z (m + 1) m) × (t ≡ cond z t′ t) × (o ≡ cond z o′ o)
@@ -97,7 +88,7 @@ module _ (marks : List ℕ) (pages first n : ℕ) (log : List ℕ) where
         let h : m * 19 + 19 ≤ length o = enter-room fit e in
         let b : (m + 1) * 19 ≡ m * 19 + 19 = omega arith in
         let q : rest marks pages first n log i ≡ y ∷ rs = rest-yes marks pages first n log i true lt (sym e) refl in
-        let ly : length y ≡ 19 = entered-length r (first + i) (row-length log i (omega arith)) in
+        let ly : length y ≡ 19 = length-entered r (first + i) (row-length 14 log i (omega arith)) in
         let w : List ℕ = withPart (m * 19) 19 o y in
         record {
           within = omega arith;
@@ -179,11 +170,6 @@ all-entered fixed marks log t o t₁ o₁ t₂ pages first n frames m e f g h em
     )
 
 -- `restart`: what `enter_all` asks of cleared tables, and what it then leaves
-drop-zeros : (n k : ℕ) → drop {A = ℕ} k (replicate n 0) ≡ replicate (n - k) 0
-drop-zeros n zero = let e : n - 0 ≡ n = omega arith in rw e
-drop-zeros zero (suc k) = let e : 0 - suc k ≡ 0 = omega arith in rw e
-drop-zeros (suc n) (suc k) = let e : suc n - suc k ≡ n - k = omega arith in rw e (drop-zeros n k)
-
 pub restart-asks : (s : Lent) (t o : List ℕ) → Restarts s → t ≡ replicate (length (s .lost .tables)) 0 → o ≡ replicate (length (s .lost .online)) 0
     → Readable (s .durable .fixed) (s .durable .marks) (s .durable .log) × (35 + num 4 (s .durable .fixed) 8 + num 4 (s .durable .fixed) 4 ≤ length t) × (length (allBy (s .durable .fixed) (s .durable .marks) (s .durable .log)) * 19 ≤ length o)
 restart-asks s t o (sized, span, last, well, few) et eo =

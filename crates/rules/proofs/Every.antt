@@ -3,19 +3,17 @@ use Prim.Native.Nat.{ℕ, zero, suc, _<_}
 use native.Mathlib.Omega.{arith}
 use mathlib.Core.Path.{_≡_, refl, ap, _∙_}
 use mathlib.Core.Logic.{_⊎_, inl, inr}
-use mathlib.Core.Bool.{Bool, true, false, cond, _&&_, _||_}
+use mathlib.Core.Bool.{Bool, true, false, cond, _||_}
 use mathlib.Core.List.{List, [], _∷_}
-use lib.ListN.{length, getD, set}
+use lib.ListN.{length, getD, set, replicate}
 use lib.Dec.{eqb}
+use borrow.Author.Tests.{eqb-true}
+use Rattle.word.proofs.Tests.{and-both, and-in}
 use Rattle.record.specs.Rows.{keep, any, consIf}
 use Rattle.order.specs.Order.{without}
-use Rattle.rules.specs.Sound.{every}
+use Rattle.rules.specs.Sound.{every, zeros}
 
--- two tests, both or either of which hold
-pub both : (a b : Bool) → (a && b) ≡ true → (a ≡ true) × (b ≡ true)
-both true b h = (refl, h)
-both false b h = let z : _≡_ {A = ℕ} 0 1 = cc in absurd (omega arith)
-
+-- two tests, either of which holds
 pub or-either : (a b : Bool) → (a || b) ≡ true → (a ≡ true) ⊎ (b ≡ true)
 or-either true b h = inl refl
 or-either false b h = inr h
@@ -32,40 +30,11 @@ module _ {A : Type 0} where
   pub meet : (b d : A → Bool) (l : List A) {C : Type 0} → every b l ≡ true → any d l ≡ true → ((x : A) → b x ≡ true → d x ≡ true → C) → C
   unfolding every any
   meet b d [] {C} h k f = let z : _≡_ {A = ℕ} 0 1 = cc in absurd (omega arith)
-  meet b d (x ∷ l) {C} h k f = go (or-either (d x) (any d l) k) (λ (e : any d l ≡ true). meet b d l (both (b x) (every b l) h .1) e f)
+  meet b d (x ∷ l) {C} h k f = go (or-either (d x) (any d l) k) (λ (e : any d l ≡ true). meet b d l (and-both (b x) (every b l) h .1) e f)
     where
       go : (d x ≡ true) ⊎ (any d l ≡ true) → (any d l ≡ true → C) → C
-      go (inl e) g = f x (both (b x) (every b l) h .0) e
+      go (inl e) g = f x (and-both (b x) (every b l) h .0) e
       go (inr e) g = g e
-
-  -- those that a narrower test keeps are among those that a wider one keeps
-  any-more : (x : A) (k m : List A) (t : A → Bool) (y z : Bool) → (y ≡ true → z ≡ true) → (any t k ≡ true → any t m ≡ true) → any t (consIf y x k) ≡ true → any t (consIf z x m) ≡ true
-  unfolding any
-  any-more x k m t true z g f h = rw (g refl) (go (or-either (t x) (any t k) h))
-    where
-      go : (t x ≡ true) ⊎ (any t k ≡ true) → (t x || any t m) ≡ true
-      go (inl e) = or-left (t x) (any t m) e
-      go (inr e) = or-right (t x) (any t m) (f e)
-  any-more x k m t false true g f h = or-right (t x) (any t m) (f h)
-  any-more x k m t false false g f h = f h
-
-  pub any-wider : (b d t : A → Bool) → ((x : A) → b x ≡ true → d x ≡ true) → (l : List A) → any t (keep b l) ≡ true → any t (keep d l) ≡ true
-  unfolding keep
-  any-wider b d t f [] h = h
-  any-wider b d t f (x ∷ l) h = any-more x (keep b l) (keep d l) t (b x) (d x) (f x) (any-wider b d t f l) h
-
-  every-less : (x : A) (k m : List A) (t : A → Bool) (y z : Bool) → (y ≡ true → z ≡ true) → (every t m ≡ true → every t k ≡ true) → every t (consIf z x m) ≡ true → every t (consIf y x k) ≡ true
-  unfolding every
-  every-less x k m t false false g f h = f h
-  every-less x k m t false true g f h = f (both (t x) (every t m) h .1)
-  every-less x k m t true z g f h =
-      let e = both (t x) (every t m) (rw (g refl) at h) in
-      rw (e .0) (f (e .1))
-
-  pub every-narrower : (b d t : A → Bool) → ((x : A) → b x ≡ true → d x ≡ true) → (l : List A) → every t (keep d l) ≡ true → every t (keep b l) ≡ true
-  unfolding keep
-  every-narrower b d t f [] h = h
-  every-narrower b d t f (x ∷ l) h = every-less x (keep b l) (keep d l) t (b x) (d x) (f x) (every-narrower b d t f l) h
 
   -- those that a test keeps pass what it implies
   pub every-kept : (b d : A → Bool) → ((x : A) → b x ≡ true → d x ≡ true) → (l : List A) → every d (keep b l) ≡ true
@@ -76,6 +45,22 @@ module _ {A : Type 0} where
       go : (t : Bool) → b x ≡ t → every d (keep b l) ≡ true → every d (consIf t x (keep b l)) ≡ true
       go true e h = rw (f x e) h
       go false e h = h
+
+  -- of those that all pass one test, those that pass another
+  pub every-kept-where : (b c d : A → Bool) → ((x : A) → b x ≡ true → c x ≡ true → d x ≡ true) → (l : List A) → every c l ≡ true → every d (keep b l) ≡ true
+  unfolding every keep
+  every-kept-where b c d f [] h = refl
+  every-kept-where b c d f (x ∷ l) h =
+      let e = and-both (c x) (every c l) h in
+      go (b x) refl (e .0) (every-kept-where b c d f l (e .1))
+    where
+      go : (t : Bool) → b x ≡ t → c x ≡ true → every d (keep b l) ≡ true → every d (consIf t x (keep b l)) ≡ true
+      go true e g k = rw (f x e g) k
+      go false e g k = k
+
+  -- what all pass, those that a test keeps pass
+  pub every-keep : (d b : A → Bool) (l : List A) → every b l ≡ true → every b (keep d l) ≡ true
+  every-keep d b l h = every-kept-where d b b (λ x e k. k) l h
 
   -- what a wider test keeps first, a narrower one does not miss
   pub keep-within : (b d : A → Bool) → ((x : A) → b x ≡ true → d x ≡ true) → (l : List A) → keep b (keep d l) ≡ keep b l
@@ -89,28 +74,33 @@ module _ {A : Type 0} where
       go false true e h k = let g : d x ≡ true = f x h in let z : _≡_ {A = ℕ} 0 1 = cc in absurd (omega arith)
 
 -- an element that every test is told of; one that is set; a frame that has left
-and-in : (a b : Bool) → a ≡ true → b ≡ true → (a && b) ≡ true
-and-in a b h k = rw (h, k)
-
 pub every-at : (b : ℕ → Bool) (l : List ℕ) (i : ℕ) → every b l ≡ true → i < length l → b (getD l i 0) ≡ true
 unfolding every
 every-at b [] i h k = absurd (omega arith)
-every-at b (x ∷ l) zero h k = both (b x) (every b l) h .0
-every-at b (x ∷ l) (suc i) h k = every-at b l i (both (b x) (every b l) h .1) (omega arith)
+every-at b (x ∷ l) zero h k = and-both (b x) (every b l) h .0
+every-at b (x ∷ l) (suc i) h k = every-at b l i (and-both (b x) (every b l) h .1) (omega arith)
 
 pub every-set : (b : ℕ → Bool) (l : List ℕ) (i v : ℕ) → every b l ≡ true → b v ≡ true → every b (set l i v) ≡ true
 unfolding every
 every-set b [] i v h k = h
-every-set b (x ∷ l) zero v h k = and-in (b v) (every b l) k (both (b x) (every b l) h .1)
+every-set b (x ∷ l) zero v h k = and-in (b v) (every b l) k (and-both (b x) (every b l) h .1)
 every-set b (x ∷ l) (suc i) v h k =
-    let e = both (b x) (every b l) h in
+    let e = and-both (b x) (every b l) h in
     and-in (b x) (every b (set l i v)) (e .0) (every-set b l i v (e .1) k)
 
 pub every-without : (b : ℕ → Bool) (f : ℕ) (o : List ℕ) → every b o ≡ true → every b (without f o) ≡ true
 unfolding every without
 every-without b f [] h = h
-every-without b f (x ∷ o) h = let e = both (b x) (every b o) h in go (eqb x f) (e .0) (every-without b f o (e .1))
+every-without b f (x ∷ o) h = let e = and-both (b x) (every b o) h in go (eqb x f) (e .0) (every-without b f o (e .1))
   where
     go : (z : Bool) → b x ≡ true → every b (without f o) ≡ true → every b (cond z (without f o) (x ∷ without f o)) ≡ true
     go true e k = k
     go false e k = and-in (b x) (every b (without f o)) e k
+
+-- bytes that are zero are as many zeros
+pub zeros-are : (l : List ℕ) → zeros l ≡ true → l ≡ replicate (length l) 0
+unfolding zeros every
+zeros-are [] h = refl
+zeros-are (x ∷ l) h =
+    let e = and-both (eqb x 0) (every (λ (b : ℕ). eqb b 0) l) h in
+    ap (λ (y : ℕ). y ∷ l) (eqb-true x 0 (e .0)) ∙ ap (λ (y : List ℕ). 0 ∷ y) (zeros-are l (e .1))

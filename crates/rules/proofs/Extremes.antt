@@ -7,12 +7,13 @@ use mathlib.Core.Bool.{Bool, true, false, _||_}
 use mathlib.Core.List.{List, [], _∷_}
 use lib.ListN.{length}
 use lib.Dec.{eqb, leb}
-use borrow.Author.Tests.{eqb-true, eq-eqb, leb-true, leb-false, le-leb}
-use Rattle.record.specs.Rows.{keep, any}
+use borrow.Author.Tests.{eq-eqb, leb-true, leb-false, le-leb}
+use Rattle.word.proofs.Tests.{and-both}
+use Rattle.record.specs.Rows.{any}
 use Rattle.record.specs.Record.{numberOf, lesser, smallest, greatest}
 use Rattle.record.proofs.Laws.{lesser-none, lesser-old, lesser-new}
 use Rattle.rules.specs.Sound.{every}
-use Rattle.rules.proofs.Every.{both, or-either, or-left, or-right, meet, any-wider, every-narrower}
+use Rattle.rules.proofs.Every.{or-either, or-left, or-right}
 
 -- a row that has a number, and one whose number is at most n
 abbrev pub hasNumber : List ℕ → Bool
@@ -51,7 +52,7 @@ smallest-from : (a : ℕ) (rs : List (List ℕ)) → every hasNumber rs ≡ true
 unfolding smallest every
 smallest-from a [] h k = (k, omega arith)
 smallest-from a (r ∷ rs) h k =
-    let e = both (hasNumber r) (every hasNumber rs) h in
+    let e = and-both (hasNumber r) (every hasNumber rs) h in
     let f : 1 ≤ lesser a (numberOf r) = lesser-least a (numberOf r) (leb-true 1 (numberOf r) (e .0)) in
     let g = smallest-from (lesser a (numberOf r)) rs (e .1) f in
     (g .0, go (lesser-is a (numberOf r) k) (g .1))
@@ -65,7 +66,7 @@ smallest-each : (a : ℕ) (rs : List (List ℕ)) → every hasNumber rs ≡ true
 unfolding smallest every
 smallest-each a [] h = refl
 smallest-each a (r ∷ rs) h =
-    let e = both (hasNumber r) (every hasNumber rs) h in
+    let e = and-both (hasNumber r) (every hasNumber rs) h in
     let f : 1 ≤ lesser a (numberOf r) = lesser-least a (numberOf r) (leb-true 1 (numberOf r) (e .0)) in
     let g = smallest-from (lesser a (numberOf r)) rs (e .1) f in
     let m : lesser a (numberOf r) ≤ numberOf r = lesser-most a (numberOf r) in
@@ -88,7 +89,7 @@ smallest-either : (a : ℕ) (rs : List (List ℕ)) → 1 ≤ a → every hasNumb
 unfolding smallest every any
 smallest-either a [] k h = or-left (eqb a a) false (eq-eqb a a refl)
 smallest-either a (r ∷ rs) k h =
-    let e = both (hasNumber r) (every hasNumber rs) h in
+    let e = and-both (hasNumber r) (every hasNumber rs) h in
     let b : ℕ = lesser a (numberOf r) in
     of-three b a (numberOf r) (smallest b rs) (any (λ (x : List ℕ). eqb (numberOf x) (smallest b rs)) rs) (lesser-is a (numberOf r) k)
     (smallest-either b rs (lesser-least a (numberOf r) (leb-true 1 (numberOf r) (e .0))) (e .1))
@@ -98,7 +99,7 @@ pub smallest-found : (rs : List (List ℕ)) → every hasNumber rs ≡ true → 
 unfolding smallest every any
 smallest-found [] h k = absurd (omega arith)
 smallest-found (r ∷ rs) h k =
-    let e = both (hasNumber r) (every hasNumber rs) h in
+    let e = and-both (hasNumber r) (every hasNumber rs) h in
     let n : 1 ≤ numberOf r = leb-true 1 (numberOf r) (e .0) in
     subst (λ (x : ℕ). (eqb (numberOf r) (smallest x rs) || any (λ (y : List ℕ). eqb (numberOf y) (smallest x rs)) rs) ≡ true) (lesser-none 0 (numberOf r) refl) (smallest-either (numberOf r) rs n (e .1))
 
@@ -111,21 +112,12 @@ pub smallest-some : (rs : List (List ℕ)) → every hasNumber rs ≡ true → 1
 unfolding smallest every
 smallest-some [] h k = absurd (omega arith)
 smallest-some (r ∷ rs) h k =
-    let e = both (hasNumber r) (every hasNumber rs) h in
+    let e = and-both (hasNumber r) (every hasNumber rs) h in
     smallest-from (lesser 0 (numberOf r)) rs (e .1) (lesser-least 0 (numberOf r) (leb-true 1 (numberOf r) (e .0))) .0
 
 pub smallest-empty : (rs : List (List ℕ)) → every hasNumber rs ≡ true → smallest 0 rs ≡ 0 → rs ≡ []
 smallest-empty [] h e = refl
 smallest-empty (r ∷ rs) h e = absurd (omega (arith, smallest-some (r ∷ rs) h (omega arith)))
-
--- among more rows the smallest is no greater
-pub smallest-wider : (b d : List ℕ → Bool) → ((r : List ℕ) → b r ≡ true → d r ≡ true) → (rs : List (List ℕ)) → every hasNumber (keep d rs) ≡ true → 1 ≤ length (keep b rs)
-    → smallest 0 (keep d rs) ≤ smallest 0 (keep b rs)
-smallest-wider b d f rs h k =
-    meet (λ (r : List ℕ). leb (smallest 0 (keep d rs)) (numberOf r)) (λ (r : List ℕ). eqb (numberOf r) (smallest 0 (keep b rs))) (keep d rs)
-    (smallest-all (keep d rs) h)
-    (any-wider b d (λ (r : List ℕ). eqb (numberOf r) (smallest 0 (keep b rs))) f rs (smallest-found (keep b rs) (every-narrower b d hasNumber f rs h) k))
-    (λ (r : List ℕ) (i : leb (smallest 0 (keep d rs)) (numberOf r) ≡ true) (j : eqb (numberOf r) (smallest 0 (keep b rs)) ≡ true). omega (arith, leb-true (smallest 0 (keep d rs)) (numberOf r) i, eqb-true (numberOf r) (smallest 0 (keep b rs)) j))
 
 -- the greatest is at least the greatest so far, and each number
 greatest-from : (a : ℕ) (rs : List (List ℕ)) → a ≤ greatest a rs
@@ -149,7 +141,7 @@ greatest-under : (a n : ℕ) (rs : List (List ℕ)) → a ≤ n → every (numbe
 unfolding greatest every
 greatest-under a n [] k h = k
 greatest-under a n (r ∷ rs) k h =
-    let e = both (numberAtMost n r) (every (numberAtMost n) rs) h in
+    let e = and-both (numberAtMost n r) (every (numberAtMost n) rs) h in
     let f : numberOf r ≤ n = leb-true (numberOf r) n (e .0) in
     greatest-under (max a (numberOf r)) n rs (omega arith) (e .1)
 

@@ -8,13 +8,14 @@ use lib.ListN.{length, getD, set, length-set}
 use lib.Seq.{getD-set-same, getD-set-other}
 use lib.Dec.{eqb, leb}
 use borrow.Author.Tests.{eqb-true, eqb-false, leb-true, leb-false, not-true}
+use Rattle.word.proofs.Tests.{and-both}
 use Rattle.record.specs.Rows.{rows, consIf, keep, any}
 use Rattle.record.specs.Record.{pageOf, numberOf, committed, entered, onPage, committedOn, ownedBy, gone, smallest}
 use Rattle.order.specs.Order.{without}
 use Rattle.rules.specs.Lent.{Lent, framesOf, closedOf, loggedOf, stampOf, dirtyOf, firstOf, orderOf, entryAt, entryOf, onlineOf, frameOf, isDirty}
 use Rattle.rules.specs.Sound.{every}
 use Rattle.rules.specs.Steps.{others, judgedAnew, evicted, foldable, unfolded, droppedBy, enters, entering}
-use Rattle.rules.proofs.Every.{both, meet, every-kept, keep-within}
+use Rattle.rules.proofs.Every.{meet, every-kept, keep-within}
 use Rattle.rules.proofs.Extremes.{hasNumber, smallest-all, smallest-found, smallest-empty}
 use Rattle.rules.proofs.Tables.{changed-count, changed-entry}
 
@@ -22,7 +23,7 @@ use Rattle.rules.proofs.Tables.{changed-count, changed-entry}
 pub enters-above : (s : Lent) (k : ℕ) (b : List ℕ) → enters s k b ≡ true → stampOf s (pageOf b) < k
 enters-above s k b h =
     leb-false k (stampOf s (pageOf b))
-    (not-true (leb k (stampOf s (pageOf b))) (both (not (leb k (closedOf s) && eqb (dirtyOf s (pageOf b)) 0)) (not (leb k (stampOf s (pageOf b)))) h .1))
+    (not-true (leb k (stampOf s (pageOf b))) (and-both (not (leb k (closedOf s) && eqb (dirtyOf s (pageOf b)) 0)) (not (leb k (stampOf s (pageOf b)))) h .1))
 
 pub entering-passed : (s : Lent) (k : ℕ) (b : List ℕ) (bs : List (List ℕ)) → enters s k b ≡ false → entering s k (b ∷ bs) ≡ entering s (k + 1) bs
 unfolding entering
@@ -30,7 +31,7 @@ entering-passed s k b bs e = ap (λ (t : Bool). consIf t (entered b k) (entering
 
 -- Compact: what is folded into the stored page is committed, and no uncommitted record leaves the online table
 pub folds-committed : (s : Lent) (p : ℕ) → every committed (foldable s p) ≡ true
-folds-committed s p = every-kept (committedOn p) committed (λ r h. both (onPage p r) (committed r) h .1) (onlineOf s)
+folds-committed s p = every-kept (committedOn p) committed (λ r h. and-both (onPage p r) (committed r) h .1) (onlineOf s)
 
 pub open-stays : (p : ℕ) (r : List ℕ) → not (committed r) ≡ true → not (gone false 0 p r) ≡ true
 open-stays p r h = ap (λ (t : Bool). not (onPage p r && t)) (not-true (committed r) h) ∙ ap not (and-false (onPage p r))

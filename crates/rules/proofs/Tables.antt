@@ -1,16 +1,21 @@
--- What is read back of the tables with another use order, and with another count of online rows too.
-use Prim.Native.Nat.{ℕ, _+_, _≤_, _<_}
+-- What is read back of the tables with another use order, and with another count of online rows too. And what an entry names.
+use Prim.Native.Nat.{ℕ, _+_, _/_, _≤_, _<_}
 use native.Mathlib.Omega.{arith}
 use mathlib.Core.Path.{_≡_, refl, sym, ap, _∙_}
 use mathlib.Core.List.{List, _++_}
 use lib.ListN.{length, getD, take, drop, set, replicate, length-append, length-set, length-replicate}
 use lib.Seq.{getD-set-same, getD-set-other, getD-drop, drop-set-lt, take-at, take-take, length-take-le}
+use lib.Dec.{leb}
+use borrow.Author.Tests.{leb-true}
 use Rattle.word.specs.Word.{num}
 use Rattle.word.proofs.Laws.{length-put}
 use Rattle.word.proofs.Puts.{getD-put-above, num-put, drop-put}
 use Rattle.record.specs.Part.{part, withPart}
-use Rattle.record.proofs.Parts.{length-with, getD-with-below, drop-with, part-with}
-use Rattle.rules.specs.Lent.{entryAt, withOrder, withCount}
+use Rattle.record.proofs.Parts.{length-with, getD-with-below, drop-with, part-with, length-part}
+use Rattle.record.proofs.Laws.{getD-part}
+use Rattle.rules.specs.Lent.{entryAt, withOrder, withCount, Lent, pagesOf, framesOf, entryOf, entriesOf}
+use Rattle.rules.specs.Shape.{Shaped}
+use Rattle.rules.proofs.Every.{every-at}
 
 -- a count is of the first two bytes
 count-same : (t u : List ℕ) → getD u 0 0 ≡ getD t 0 0 → getD u 1 0 ≡ getD t 1 0 → num 2 u 0 ≡ num 2 t 0
@@ -107,3 +112,12 @@ module _ (frames p e : ℕ) (o t : List ℕ) where
 
   pub changed-entry : entryAt frames p < length t → getD (withOrder frames o (set t (entryAt frames p) e)) (entryAt frames p) 0 ≡ e
   changed-entry h = order-entry frames o (set t (entryAt frames p) e) (omega (arith, changed-length)) p ∙ getD-set-same t (entryAt frames p) e 0 h
+
+-- an entry names a frame, or none
+pub entry-below : (s : Lent) (p : ℕ) → Shaped s → p < pagesOf s → entryOf s p / 2 ≤ framesOf s
+entry-below s p w h =
+    let z = w .sized in
+    let n : length (entriesOf s) ≡ pagesOf s = length-part (35 + framesOf s) (pagesOf s) (s .lost .tables) (omega arith) in
+    let k : p < length (entriesOf s) = omega arith in
+    let e : getD (entriesOf s) p 0 ≡ entryOf s p = getD-part p (35 + framesOf s) (pagesOf s) (s .lost .tables) h in
+    rw e at (leb-true (getD (entriesOf s) p 0 / 2) (framesOf s) (every-at (λ (x : ℕ). leb (x / 2) (framesOf s)) (entriesOf s) p (w .entries) k))

@@ -8,11 +8,11 @@ use mathlib.Core.List.{List, [], _∷_, _++_, map}
 use lib.ListN.{length, getD, set}
 use lib.Dec.{eqb, ltb}
 use borrow.Author.Tests.{ltb-true, eqb-true, eqb-false, lt-ltb, eq-eqb, ne-eqb}
+use Rattle.word.proofs.Tests.{and-both}
 use Rattle.record.specs.Rows.{consIf, keep}
 use Rattle.order.specs.Order.{without, touched}
 use Rattle.rules.specs.Sound.{every, upTo, serving, times}
 use Rattle.rules.specs.Steps.{freed}
-use Rattle.onlinecheck.proofs.Rows.{and-both}
 
 -- one more at the front
 length-cons-if : (b : Bool) (x : ℕ) (l : List ℕ) → length (consIf b x l) ≡ cond b 1 0 + length l

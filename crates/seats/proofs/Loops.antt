@@ -9,6 +9,7 @@ use lib.ListN.{length, getD, set, replicate, length-set, length-replicate, getD-
 use lib.Seq.{getD-set-same, getD-set-other}
 use lib.Dec.{eqb, leb, ltb}
 use borrow.Author.Tests.{ltb-true, le-leb, eqb-true, eqb-false, eq-eqb, ne-eqb}
+use Rattle.word.proofs.Tests.{and-both}
 use Rattle.record.specs.Rows.{consIf, keep, any}
 use Rattle.record.specs.Record.{pageOf, onPage, ownedBy}
 use Rattle.order.specs.Order.{without}
@@ -17,7 +18,6 @@ use Rattle.rules.specs.Steps.{freedOf, framesFreed}
 use Rattle.rules.specs.Sound.{every, serving, times}
 use Rattle.rules.proofs.Every.{every-set, every-without}
 use Rattle.rules.proofs.Needed.{cond-same, walked, walked-length, walked-at}
-use Rattle.onlinecheck.proofs.Rows.{and-both}
 use Rattle.seats.proofs.Seated.{Seated}
 use Rattle.seats.proofs.Counting.{times-without, serving-set}
 use Rattle.seats.proofs.Places.{seated-evicted, absent-out}

@@ -9,12 +9,12 @@ use lib.ListN.{length, getD, set, replicate, length-set, length-map, List·getD-
 use lib.Seq.{getD-set-same, getD-set-other}
 use lib.Dec.{eqb, leb, ltb}
 use borrow.Author.Tests.{leb-true, lt-ltb, le-leb, eqb-true, eqb-false, eq-eqb, ne-eqb, not-true, not-false}
+use Rattle.word.proofs.Tests.{and-both}
 use Rattle.order.specs.Order.{without, touched, frameFor}
 use Rattle.rules.specs.Lent.{inFrame, frameOf, isDirty, cleanIn, dirtyIn}
 use Rattle.rules.specs.Sound.{every, upTo, serving, times}
 use Rattle.rules.specs.Steps.{freedOf, freed, placed}
 use Rattle.rules.proofs.Every.{every-at, every-set, every-without}
-use Rattle.onlinecheck.proofs.Rows.{and-both}
 use Rattle.fetch.proofs.Laws.{frame-below}
 use Rattle.seats.proofs.Seated.{Seated}
 use Rattle.seats.proofs.Counting.{times-without, times-touched, serving-none, serving-cons, serving-set, serving-at, serving-freed, times-none, pigeonhole, upTo-all}

@@ -2,6 +2,7 @@
 use Prim.Native.Nat.{ℕ, _≤_}
 use mathlib.Core.Path.{_≡_, refl, sym, ap, _∙_}
 use mathlib.Core.Bool.{Bool, true, false, not, _&&_}
+use Rattle.word.proofs.Tests.{and-both}
 use Rattle.rules.specs.Lent.{Lent, lentOf, sizeOf, pagesOf, framesOf, roomOf, spanOf, lastOf, loggedOf, countOf}
 use Rattle.rules.specs.Sound.{soundDurable, soundLost, sound, s3-counts, s20-live, s4-entries, s5-frame-once, s6-order, s14-order-zero, s7-online-records, s8-owners, s14-online-zero, s10-in-log, s11-above-stamp, s9-number-once, s12-dirty, s13-apart}
 use Rattle.rules.specs.Shape.{Sized, Shaped}
@@ -18,18 +19,6 @@ and-refused false a b e h = ap (λ (t : Bool). t && b) e
 
 pub and-kept : (a b r : Bool) → a ≡ true → r ≡ b → r ≡ (a && b)
 and-kept a b r e h = h ∙ sym (ap (λ (t : Bool). t && b) e)
-
-pub was-true : (r a : Bool) → r ≡ a → not r ≡ false → a ≡ true
-was-true true a e h = sym e
-was-true false a e h = absurd (mathlib.Core.Bool.false≢true (sym h))
-
-and-left : (a b : Bool) → (a && b) ≡ true → a ≡ true
-and-left true b e = refl
-and-left false b e = e
-
-and-right : (a b : Bool) → (a && b) ≡ true → b ≡ true
-and-right true b e = e
-and-right false b e = absurd (mathlib.Core.Bool.false≢true e)
 
 -- the lost part is the tables' test and the online table's
 nine : (t a b c d e f g h : Bool) → (t && (a && b && c && d && e && f && g && h)) ≡ (t && a && b && c && d && e && f && g && h)
@@ -50,14 +39,14 @@ lost-is s =
 
 pub sound-durable : (s : Lent) → sound s ≡ true → soundDurable s ≡ true
 unfolding sound
-sound-durable s e = and-left (soundDurable s) (soundLost s) e
+sound-durable s e = and-both (soundDurable s) (soundLost s) e .0
 
 pub sound-lost : (s : Lent) → sound s ≡ true → soundLost s ≡ true
 unfolding sound
-sound-lost s e = and-right (soundDurable s) (soundLost s) e
+sound-lost s e = and-both (soundDurable s) (soundLost s) e .1
 
 sound-tables : (s : Lent) → sound s ≡ true → tablesOf s ≡ true
-sound-tables s e = and-left (tablesOf s) (rowsOf s) (lost-is s ∙ sound-lost s e)
+sound-tables s e = and-both (tablesOf s) (rowsOf s) (lost-is s ∙ sound-lost s e) .0
 
 -- what the inner functions ask for
 pub sound-shaped : (s : Lent) → sound s ≡ true → Shaped s

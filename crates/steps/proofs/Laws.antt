@@ -2,7 +2,7 @@
 use Prim.Native.Nat.{ℕ, zero, suc, _+_, _-_, _/_, _≤_, _<_}
 use native.Mathlib.Omega.{arith}
 use mathlib.Core.Path.{_≡_, refl, sym, ap, _∙_}
-use mathlib.Core.Bool.{Bool, true, false, cond, not, _&&_}
+use mathlib.Core.Bool.{Bool, true, false, cond, not}
 use mathlib.Core.List.{List, [], _∷_}
 use lib.ListN.{length, getD, take, drop, set, replicate, length-drop, length-replicate, getD-replicate, List·getD-eq-default}
 use lib.Seq.{getD-drop, take-all, set-out}
@@ -11,11 +11,12 @@ use Rattle.record.specs.Part.{part, withPart}
 use lib.Dec.{eqb, leb}
 use borrow.Author.Tests.{leb-true, leb-false, eq-eqb, ne-eqb}
 use borrow.Rule.Slice.PartMut.{mid-len, set-mid-at}
-use Rattle.record.specs.Rows.{rowAt, rows, consIf, keep, any}
+use Rattle.record.specs.Rows.{rowAt, rows, keep, any}
 use Rattle.record.specs.Record.{pageOf, ownerOf, onPage, ownedBy}
 use Rattle.record.proofs.Laws.{getD-part}
+use Rattle.rules.proofs.Verdicts.{number-least, number-most}
 use Rattle.table.specs.Stays.{stays}
-use Rattle.table.proofs.Laws.{rows-start, keep-rows-more, keep-rows-end}
+use Rattle.table.proofs.Laws.{each-start, each-turn, each-end}
 use Rattle.order.proofs.Laws.{copy-turn}
 use Rattle.clerk.specs.declared.Clerk.{Clerk}
 use Rattle.clerk.specs.declared.Ruled.{Ruled}
@@ -36,21 +37,6 @@ pub live-done : (t s : List ℕ) (i : ℕ) → i ≤ 32 → 32 ≤ i → length 
 live-done t s i p q l e =
     let a : i ≡ 32 = omega arith in
     sym (take-all i s (omega arith)) ∙ e ∙ ap (λ (k : ℕ). take k (drop 3 t)) a
-
-and-left : (a b : Bool) → (a && b) ≡ true → a ≡ true
-and-left true b e = refl
-and-left false b e = absurd (mathlib.Core.Bool.false≢true e)
-
-and-right : (a b : Bool) → (a && b) ≡ true → b ≡ true
-and-right true b e = e
-and-right false b e = absurd (mathlib.Core.Bool.false≢true e)
-
--- a number's bounds
-pub number-least : (x : ℕ) → isNumber x ≡ true → 1 ≤ x
-number-least x e = leb-true 1 x (and-left (leb 1 x) (leb x 32) e)
-
-pub number-most : (x : ℕ) → isNumber x ≡ true → x ≤ 32
-number-most x e = leb-true x 32 (and-right (leb 1 x) (leb x 32) e)
 
 -- the tables once the clerk's live set is back in them
 pub begun-set : (c : Clerk) (r : Ruled) (t t′ : List ℕ) (x : ℕ) → 35 ≤ length t → isNumber x ≡ true → isLive t x ≡ false → c .live ≡ part 3 32 t → r ≡ begins c x → t′ ≡ withPart 3 32 t (r .clerk .live) → t′ ≡ set t (liveAt x) 1
@@ -132,24 +118,6 @@ judged-page frames k a t t′ r p e l m g h q =
         let f : length t ≤ 35 + frames + p = omega (arith, leb-true 1024 p w) in
         set-out t (35 + frames + p) e f ∙ past-set t (35 + frames + p) (cond (any (onPage p) k) 1 0) f
     one false w = ap (λ (v : ℕ). set t (35 + frames + p) v) (h ∙ ap (λ (b : Bool). cond b 1 0) (marked-page k a p (leb-false 1024 p w) m))
-
--- a loop over the rows that does something at each row of a kind: F is what all of them do, g what one does
-module _ (F : List (List ℕ) → List ℕ → List ℕ) (g : List ℕ → List ℕ → List ℕ) (none : (x : List ℕ) → F [] x ≡ x) (more : (r : List ℕ) (rs : List (List ℕ)) (x : List ℕ) → F (r ∷ rs) x ≡ F rs (g r x)) (b : List ℕ → Bool) (m : ℕ) (l : List ℕ) where
-  each-start : (x : List ℕ) → F (keep b (rows 19 (m - 0) l 0)) x ≡ F (keep b (rows 19 m l 0)) x
-  each-start x = ap (λ (rs : List (List ℕ)). F (keep b rs) x) (rows-start 19 m l)
-
-  each-one : (c : Bool) (r : List ℕ) (rs : List (List ℕ)) (x : List ℕ) → F (consIf c r rs) x ≡ F rs (cond c (g r x) x)
-  each-one true r rs x = more r rs x
-  each-one false r rs x = refl
-
-  each-turn : (i : ℕ) (x x′ z : List ℕ) → i < m → x′ ≡ cond (b (rowAt 19 l i)) (g (rowAt 19 l i) x) x → F (keep b (rows 19 (m - i) l i)) x ≡ z → F (keep b (rows 19 (m - (i + 1)) l (i + 1))) x′ ≡ z
-  each-turn i x x′ z h q p =
-      let rs : List (List ℕ) = keep b (rows 19 (m - (i + 1)) l (i + 1)) in
-      ap (λ (y : List ℕ). F rs y) q ∙ sym (each-one (b (rowAt 19 l i)) (rowAt 19 l i) rs x)
-      ∙ ap (λ (y : List (List ℕ)). F y x) (sym (keep-rows-more b 19 m l i h)) ∙ p
-
-  each-end : (i : ℕ) (x z : List ℕ) → m ≤ i → F (keep b (rows 19 (m - i) l i)) x ≡ z → x ≡ z
-  each-end i x z h p = sym (none x) ∙ ap (λ (y : List (List ℕ)). F y x) (sym (keep-rows-end b 19 m l i h)) ∙ p
 
 -- the order of the loop over the owner's rows
 module _ (frames owner m : ℕ) (t l : List ℕ) where

@@ -4,25 +4,16 @@ use native.Mathlib.Omega.{arith}
 use native.Mathlib.Nat.{suc-mul, zero-mul, add-mul, one-mul, mul-comm, mul-sub, add-comm}
 use mathlib.Core.Path.{_≡_, refl, sym, ap, _∙_}
 use mathlib.Core.Bool.{Bool, true, false, cond}
-use mathlib.Core.List.{List, [], _∷_, _++_, append-assoc, append-nil, map}
-use lib.ListN.{length, take, drop, set, replicate, take-append-drop, length-append, length-drop, length-set, length-replicate}
+use mathlib.Core.List.{List, [], _∷_, _++_, append-assoc, map}
+use lib.ListN.{length, take, drop, set, replicate, length-append, length-drop, length-set, length-replicate}
 use lib.Seq.{take-add, drop-drop, take-at, drop-at, length-take-le}
-use Rattle.record.specs.Part.{part, withPart}
+use Rattle.record.specs.Part.{part}
 use Rattle.record.specs.Rows.{rowAt, rows, joined, table, consIf, keep}
 use Rattle.record.specs.Record.{bodyOf, ownedBy, rowOf, entered, numbered, numberRows}
 use Rattle.word.specs.Word.{put}
 use Rattle.word.proofs.Laws.{length-put}
 
 module _ {A : Type 0} where
-  -- one that passes is kept, one that does not is not
-  pub keep-yes : (b : A → Bool) (x : A) (l : List A) → b x ≡ true → keep b (x ∷ l) ≡ x ∷ keep b l
-  unfolding keep
-  keep-yes b x l e = ap (λ (z : Bool). consIf z x (keep b l)) e
-
-  pub keep-no : (b : A → Bool) (x : A) (l : List A) → b x ≡ false → keep b (x ∷ l) ≡ keep b l
-  unfolding keep
-  keep-no b x l e = ap (λ (z : Bool). consIf z x (keep b l)) e
-
   pub keep-nil : (b : A → Bool) → keep b [] ≡ []
   unfolding keep
   keep-nil b = refl
@@ -61,6 +52,24 @@ keep-rows-more b w m t i h = ap (λ (l : List (List ℕ)). keep b l) (rows-more 
 
 pub keep-rows-end : (b : List ℕ → Bool) (w m : ℕ) (t : List ℕ) (i : ℕ) → m ≤ i → keep b (rows w (m - i) t i) ≡ []
 keep-rows-end b w m t i h = ap (λ (l : List (List ℕ)). keep b l) (rows-end w m t i h) ∙ keep-nil b
+
+-- a loop over the rows that does something at each row of a kind: F is what all of them do, g what one does
+module _ (F : List (List ℕ) → List ℕ → List ℕ) (g : List ℕ → List ℕ → List ℕ) (none : (x : List ℕ) → F [] x ≡ x) (more : (r : List ℕ) (rs : List (List ℕ)) (x : List ℕ) → F (r ∷ rs) x ≡ F rs (g r x)) (b : List ℕ → Bool) (m : ℕ) (l : List ℕ) where
+  pub each-start : (x : List ℕ) → F (keep b (rows 19 (m - 0) l 0)) x ≡ F (keep b (rows 19 m l 0)) x
+  each-start x = ap (λ (rs : List (List ℕ)). F (keep b rs) x) (rows-start 19 m l)
+
+  each-one : (c : Bool) (r : List ℕ) (rs : List (List ℕ)) (x : List ℕ) → F (consIf c r rs) x ≡ F rs (cond c (g r x) x)
+  each-one true r rs x = more r rs x
+  each-one false r rs x = refl
+
+  pub each-turn : (i : ℕ) (x x′ z : List ℕ) → i < m → x′ ≡ cond (b (rowAt 19 l i)) (g (rowAt 19 l i) x) x → F (keep b (rows 19 (m - i) l i)) x ≡ z → F (keep b (rows 19 (m - (i + 1)) l (i + 1))) x′ ≡ z
+  each-turn i x x′ z h q p =
+      let rs : List (List ℕ) = keep b (rows 19 (m - (i + 1)) l (i + 1)) in
+      ap (λ (y : List ℕ). F rs y) q ∙ sym (each-one (b (rowAt 19 l i)) (rowAt 19 l i) rs x)
+      ∙ ap (λ (y : List (List ℕ)). F y x) (sym (keep-rows-more b 19 m l i h)) ∙ p
+
+  pub each-end : (i : ℕ) (x z : List ℕ) → m ≤ i → F (keep b (rows 19 (m - i) l i)) x ≡ z → x ≡ z
+  each-end i x z h p = sym (none x) ∙ ap (λ (y : List (List ℕ)). F y x) (sym (keep-rows-end b 19 m l i h)) ∙ p
 
 -- a count of the kept rows
 pub count-start : (b : List ℕ → Bool) (w m : ℕ) (t : List ℕ) (n : ℕ) → n + length (keep b (rows w (m - 0) t 0)) ≡ n + length (keep b (rows w m t 0))
@@ -217,24 +226,6 @@ rows-from {w} f z i (one {r} {rs} le h) e =
 pub rows-joined : {w : ℕ} {rs : List (List ℕ)} (z : List ℕ) → Wide w rs → rows w (length rs) (joined rs ++ z) 0 ≡ rs
 rows-joined {w} z h = rows-from [] z 0 h (sym (zero-mul w))
 
--- rows written after the first n
-pub rows-extended : {w : ℕ} (n : ℕ) (l z : List ℕ) {rs : List (List ℕ)} → n * w ≤ length l → Wide w rs
-    → rows w (n + length rs) (take (n * w) l ++ (joined rs ++ z)) 0 ≡ rows w n l 0 ++ rs
-rows-extended {w} n l z {rs} h k =
-    let b : take (n * w) l ++ (joined rs ++ z) ≡ joined (rows w n l 0 ++ rs) ++ z =
-    ap (λ (x : List ℕ). x ++ (joined rs ++ z)) (sym (joined-all w n l)) ∙ sym (append-assoc (joined (rows w n l 0)) (joined rs) z)
-    ∙ ap (λ (x : List ℕ). x ++ z) (sym (joined-append (rows w n l 0) rs)) in
-    let c : n + length rs ≡ length (rows w n l 0 ++ rs) = sym (length-append (rows w n l 0) rs ∙ ap (λ (x : ℕ). x + length rs) (length-rows w n l 0)) in
-    ap (λ (x : List ℕ). rows w (n + length rs) x 0) b ∙ ap (λ (x : ℕ). rows w x (joined (rows w n l 0 ++ rs) ++ z) 0) c
-    ∙ rows-joined z (wide-append (wide-all w n l h) k)
-
-pub rows-appended : {w : ℕ} (m : ℕ) (t y : List ℕ) → m * w ≤ length t → length y ≡ w → rows w (m + 1) (withPart (m * w) w t y) 0 ≡ rows w m t 0 ++ (y ∷ [])
-unfolding joined
-rows-appended {w} m t y h e =
-    let k : Wide w (y ∷ []) = one e none in
-    ap (λ (x : List ℕ). rows w (m + 1) (take (m * w) t ++ (x ++ drop w (drop (m * w) t))) 0) (sym (append-nil y))
-    ∙ rows-extended m t (drop w (drop (m * w) t)) h k
-
 -- a table of such rows: its length, its rows, its zeros
 pub length-table : {w : ℕ} (size : ℕ) {rs : List (List ℕ)} → Wide w rs → length rs ≤ size → length (table w size rs) ≡ size * w
 unfolding table
@@ -258,13 +249,6 @@ zeros-table {w} size {rs} h = drop-at (joined rs) (replicate ((size - length rs)
 pub length-kept-table : (b : List ℕ → Bool) (n size : ℕ) (t : List ℕ) → n ≤ size → length t ≡ size * 19 → length (table 19 size (keep b (rows 19 n t 0))) ≡ size * 19
 length-kept-table b n size t h e =
     length-table size (wide-keep b (wide-all 19 n t (omega arith))) (omega (arith, keep-length b (rows 19 n t 0), length-rows 19 n t 0))
-
--- a list with zeros after its first n rows is the table of them
-pub canon : (w size n : ℕ) (l : List ℕ) → drop (n * w) l ≡ replicate ((size - n) * w) 0 → l ≡ table w size (rows w n l 0)
-unfolding table
-canon w size n l e =
-    sym (take-append-drop (n * w) l) ∙ ap (λ (x : List ℕ). x ++ drop (n * w) l) (sym (joined-all w n l)) ∙ ap (λ (x : List ℕ). joined (rows w n l 0) ++ x) e
-    ∙ ap (λ (k : ℕ). joined (rows w n l 0) ++ replicate ((size - k) * w) 0) (sym (length-rows w n l 0))
 
 -- the rows that `append` and `enter` write have their width
 pub length-rowOf : (page offset w kind v owner : ℕ) → length (rowOf page offset w kind v owner) ≡ 19

@@ -6,19 +6,9 @@ use native.Mathlib.Numerals.{add-one}
 use mathlib.Core.Path.{_≡_, refl, sym, ap, _∙_}
 use mathlib.Core.List.{List, [], _∷_, _++_, append-nil}
 use lib.ListN.{length, take, drop, getD, set, replicate, take-append-drop, length-drop}
-use lib.Seq.{take-length, drop-length, take-all, length-take-le, getD-append-add, getD-drop}
+use lib.Seq.{take-length, take-all, length-take-le, getD-append-add, getD-drop}
 use lib.ListN.{drop-of-length-le, length-set}
-use borrow.Author.Fill.{fill-more}
 use Rattle.record.specs.Part.{part, withPart}
-
--- `wipe`
-pub wipe-turn : (i : ℕ) (d l : List ℕ) → i < length d → l ≡ replicate i 0 ++ drop i d → set l i 0 ≡ replicate (i + 1) 0 ++ drop (i + 1) d
-wipe-turn i d l h e = ap (λ (x : List ℕ). set x i 0) e ∙ fill-more i 0 d h
-
-pub wipe-end : (i : ℕ) (d l : List ℕ) → i ≤ length d → length d ≤ i → l ≡ replicate i 0 ++ drop i d → l ≡ replicate (length d) 0
-wipe-end i d l p q e =
-    let h : i ≡ length d = omega arith in
-    e ∙ ap (λ (k : ℕ). replicate k 0 ++ drop k d) h ∙ ap (λ (x : List ℕ). replicate (length d) 0 ++ x) (drop-length d) ∙ append-nil (replicate (length d) 0)
 
 -- `copy`: the first i bytes are copied
 copy-suc : (i : ℕ) (s d : List ℕ) → i < length s → length s ≤ length d → set (take i s ++ drop i d) i (getD s i 0) ≡ take (suc i) s ++ drop (suc i) d
@@ -39,7 +29,7 @@ copy-end i s d l p q e =
     e ∙ ap (λ (k : ℕ). take k s ++ drop k d) h ∙ ap (λ (x : List ℕ). x ++ drop (length s) d) (take-length s)
 
 -- `slide`: the first i bytes are moved
-set-append-add : (xs ys : List ℕ) (n a : ℕ) → set (xs ++ ys) (length xs + n) a ≡ xs ++ set ys n a
+pub set-append-add : (xs ys : List ℕ) (n a : ℕ) → set (xs ++ ys) (length xs + n) a ≡ xs ++ set ys n a
 set-append-add [] ys n a = ap (λ (k : ℕ). set ys k a) (zero-add n)
 set-append-add (x ∷ xs) ys n a = ap (λ (k : ℕ). set (x ∷ (xs ++ ys)) k a) (suc-add (length xs) n) ∙ ap (λ (l : List ℕ). x ∷ l) (set-append-add xs ys n a)
 

@@ -7,6 +7,7 @@ use lib.ListN.{length}
 use lib.Dec.{leb}
 use borrow.Author.Tests.{leb-true}
 use Rattle.word.specs.Word.{num}
+use Rattle.word.proofs.Tests.{and-both}
 use Rattle.record.specs.Record.{bodyOf, rowOf}
 use Rattle.rules.specs.declared.Answer.{Answer}
 use Rattle.rules.specs.declared.Answer.the-variants.{Done, NotDue, Refused}
@@ -17,7 +18,6 @@ use Rattle.rules.specs.Lent.{Lent, Lost, pagesOf}
 use Rattle.rules.specs.Sound.{between}
 use Rattle.rules.specs.Steps.{begun, readStep, readBytes, updated, owned, committing, aborted, evicted, due, compacted, closed, checkpointed, restarted, formatted}
 use Rattle.rules.specs.Calls.{Outcome, settled, doneWith, dueOr, judgeBegin, beginCall, judgeRead, readCall, judgeUpdate, updateCall, judgeCommit, commitCall, judgeAbort, abortCall, judgeEvict, evictCall, judgeCompact, compactCall, judgeClose, closeCall, judgeCheckpoint, checkpointCall, judgeRestart, restartCall, judgeFormat, formatCall}
-use Rattle.rules.proofs.Every.{both}
 use Rattle.ventarico.proofs.Went.{begin-went, abort-went, evict-went, commit-went, read-went, update-went, update-whose, compact-went, format-went}
 use Rattle.history.specs.Past.{Past, fresh, begins, updates, commits, aborts, falls, rises}
 use Rattle.history.specs.Run.{Call, Begin, Commit, Abort, Evict, Read, Update, Compact, Checkpoint, Close, Restart, outcome, taken, told, Fits, afterLoss, afterSteps, Run, format, no-format, call, restart, loss, loss-inside}
@@ -35,7 +35,7 @@ use Rattle.history.proofs.Formats.{format-right}
 
 -- a number of a transaction is within its range
 pub within : (x : ℕ) → between 1 x 32 ≡ true → (1 ≤ x) × (x ≤ 32)
-within x e = let k = both (leb 1 x) (leb x 32) e in (leb-true 1 x (k .0), leb-true x 32 (k .1))
+within x e = let k = and-both (leb 1 x) (leb x 32) e in (leb-true 1 x (k .0), leb-true x 32 (k .1))
 
 -- no call, accepted or refused, leaves a store that is up awaiting a restart
 pub told-up : (h : Past) (c : Call) (a : Answer) → h .down ≡ false → told h c a .down ≡ false

@@ -1,20 +1,17 @@
 -- A door tells what its call says: refused, or done.
 use Prim.Native.Nat.{ℕ}
 use mathlib.Core.Path.{_≡_, refl, sym, ap, _∙_}
-use mathlib.Core.Bool.{Bool, true, false, not}
+use mathlib.Core.Bool.{Bool, true, false}
 use mathlib.Core.List.{List, []}
 use Rattle.rules.specs.declared.Refusal.{Refusal}
-use Rattle.rules.specs.declared.Refusal.the-variants.{NotSound}
 use Rattle.rules.specs.declared.Verdict.{Verdict}
 use Rattle.rules.specs.declared.Verdict.the-variants.{Go, Refuse}
 use Rattle.rules.specs.declared.Answer.the-variants.{Done, NotDue, Refused}
 use Rattle.rules.specs.declared.Reply.{Reply}
 use Rattle.rules.specs.Answers.{replyOf}
 use Rattle.rules.specs.Lent.{Lent}
-use Rattle.rules.specs.Sound.{sound}
 use Rattle.rules.specs.Steps.{Left}
-use Rattle.rules.specs.Calls.{Outcome, refuseIf, checked, doneWith, dueOr, settled}
-use Rattle.rules.proofs.Verdicts.{refused, passed, holds}
+use Rattle.rules.specs.Calls.{Outcome, refuseIf, doneWith, dueOr, settled}
 use Rattle.ventarico.specs.Said.{Told, doneAs}
 
 -- a verdict of no: the refusal's reply, and every byte as it was
@@ -32,16 +29,6 @@ told-done v s buffer after d r t e h l =
       reply = h ∙ sym (ap (λ (w : Verdict). replyOf (settled w s buffer (doneWith d after) .answer)) e);
       lent = l ∙ sym (ap (λ (w : Verdict). settled w s buffer (doneWith d after) .lent) e);
     }
-
--- the check that comes first
-pub unsound : (s : Lent) (v : Verdict) (b : Bool) → b ≡ sound s → not b ≡ true → checked s v ≡ Refuse NotSound
-unsound s v b e h = sym (refused (not (sound s)) NotSound v (ap not (sym e) ∙ h))
-
-pub judged : (s : Lent) (v w : Verdict) (b : Bool) → b ≡ sound s → not b ≡ false → v ≡ w → checked s v ≡ w
-judged s v w b e h k = sym (passed (not (sound s)) NotSound v w (ap not (sym e) ∙ h) (sym k))
-
-pub is-sound : (s : Lent) (b : Bool) → b ≡ sound s → not b ≡ false → sound s ≡ true
-is-sound s b e h = holds (sound s) (ap not (sym e) ∙ h)
 
 -- read's buffer beside them
 pub buffer-refused : (v : Verdict) (s : Lent) (buffer : List ℕ) (o : Outcome) (why : Refusal) → v ≡ Refuse why → buffer ≡ settled v s buffer o .buffer
@@ -64,12 +51,3 @@ told-due v s b d r t e f h l =
       reply = h ∙ sym (λ i. replyOf (settled (e i) s [] (dueOr (f i) s (doneWith d [])) .answer));
       lent = l ∙ sym (λ i. settled (e i) s [] (dueOr (f i) s (doneWith d [])) .lent);
     }
-
--- a test's value from the call that asked it
-pub not-so : (a b : Bool) → a ≡ b → not a ≡ true → b ≡ false
-not-so true b e h = absurd (mathlib.Core.Bool.false≢true h)
-not-so false b e h = sym e
-
-pub so : (a b : Bool) → a ≡ b → not a ≡ false → b ≡ true
-so true b e h = sym e
-so false b e h = absurd (mathlib.Core.Bool.false≢true (sym h))

@@ -1,13 +1,15 @@
 -- What a verdict of go says: no test of the call's chain held.
 use Prim.Native.Nat.{ℕ, _+_, _*_, _-_, _^_, _≤_, _<_}
 use native.Mathlib.Omega.{arith}
-use mathlib.Core.Path.{_≡_, refl, sym, ap, _∙_}
-use mathlib.Core.Bool.{Bool, true, false, not, _&&_, _||_}
+use mathlib.Core.Path.{_≡_, sym, ap, _∙_}
+use mathlib.Core.Bool.{Bool, true, false, not, _&&_}
 use mathlib.Core.List.{List}
 use lib.ListN.{length, getD, drop}
 use lib.Dec.{eqb, leb, ltb}
-use borrow.Author.Tests.{ltb-true, ltb-false, leb-true, eqb-true}
+use borrow.Author.Tests.{ltb-true, ltb-false, leb-true, eqb-true, not-false}
+use Rattle.word.proofs.Tests.{and-both}
 use Rattle.record.specs.Record.{isLength}
+use Rattle.record.proofs.Laws.{length-most}
 use Rattle.rules.specs.declared.Refusal.{Refusal}
 use Rattle.rules.specs.declared.Refusal.the-variants.{NotSound, Argument, ShortBuffer, NotLive, Live, Held, OnlineFull, LogFull, NumbersEnd, NoFrame}
 use Rattle.rules.specs.declared.Bad.the-variants.{Page, Number, Length, Place, Value, Kind, Parameter, Lent as LentLength}
@@ -17,20 +19,12 @@ use Rattle.rules.specs.Lent.{Lent, sizeOf, pagesOf, roomOf, spanOf, lastOf, log
 use Rattle.rules.specs.Sound.{sound, soundDurable, soundLost, zeros, between, inRange, exactLengths, s1-parameters, s2-lengths, s3-logged, s16-logged, s18-first, s15-stamps, s17-s19-dirty, s7-log-records, s14-log-zero, s3-counts, s20-live, s4-entries, s5-frame-once, s6-order, s14-order-zero, s7-online-records, s8-owners, s14-online-zero, s10-in-log, s11-above-stamp, s9-number-once, s12-dirty, s13-apart}
 use Rattle.rules.specs.Steps.{owned, enteringAll}
 use Rattle.rules.specs.Calls.{refuseIf, checked, isNumber, isLive, held, mayBegin, judgeBegin, mayRead, judgeRead, mayUpdate, judgeUpdate, mayCommit, judgeCommit, mayAbort, judgeAbort, mayEvict, judgeEvict, mayCompact, judgeCompact, judgeClose, mayCheckpoint, judgeCheckpoint, judgeRestart, judgeFormat}
-use Rattle.rules.proofs.Verdicts.{went, holds}
+use Rattle.rules.proofs.Verdicts.{went}
 use Rattle.sound.proofs.Laws.{sound-durable, sound-lost}
-
-and-left : (a b : Bool) → (a && b) ≡ true → a ≡ true
-and-left true b e = refl
-and-left false b e = e
-
-and-right : (a b : Bool) → (a && b) ≡ true → b ≡ true
-and-right true b e = e
-and-right false b e = absurd (mathlib.Core.Bool.false≢true e)
 
 -- the check passed, and so did the rest
 pub checked-went : (s : Lent) (v : Verdict) → checked s v ≡ Go → (sound s ≡ true) × (v ≡ Go)
-checked-went s v e = let h = went (not (sound s)) NotSound v e in (holds (sound s) (h .0), h .1)
+checked-went s v e = let h = went (not (sound s)) NotSound v e in (not-false (sound s) (h .0), h .1)
 
 pub begin-went : (s : Lent) (x : ℕ) → judgeBegin s x ≡ Go → (sound s ≡ true) × (isNumber x ≡ true) × (isLive (s .lost .tables) x ≡ false)
 unfolding judgeBegin mayBegin
@@ -38,14 +32,14 @@ begin-went s x e =
     let a = checked-went s (refuseIf (not (isNumber x)) (Argument Number) (refuseIf (isLive (s .lost .tables) x) Live Go)) e in
     let b = went (not (isNumber x)) (Argument Number) (refuseIf (isLive (s .lost .tables) x) Live Go) (a .1) in
     let d = went (isLive (s .lost .tables) x) Live Go (b .1) in
-    (a .0, holds (isNumber x) (b .0), d .0)
+    (a .0, not-false (isNumber x) (b .0), d .0)
 
 pub abort-went : (s : Lent) (x : ℕ) → judgeAbort s x ≡ Go → (sound s ≡ true) × (isNumber x ≡ true)
 unfolding judgeAbort mayAbort
 abort-went s x e =
     let a = checked-went s (refuseIf (not (isNumber x)) (Argument Number) (refuseIf (not (isLive (s .lost .tables) x)) NotLive Go)) e in
     let b = went (not (isNumber x)) (Argument Number) (refuseIf (not (isLive (s .lost .tables) x)) NotLive Go) (a .1) in
-    (a .0, holds (isNumber x) (b .0))
+    (a .0, not-false (isNumber x) (b .0))
 
 pub evict-went : (s : Lent) (p : ℕ) → judgeEvict s p ≡ Go → (sound s ≡ true) × (p < pagesOf s) × (inFrame (entryOf s p) ≡ true)
 unfolding judgeEvict mayEvict
@@ -53,7 +47,7 @@ evict-went s p e =
     let a = checked-went s (refuseIf (not (ltb p (pagesOf s))) (Argument Page) (refuseIf (not (inFrame (entryOf s p))) NoFrame Go)) e in
     let b = went (not (ltb p (pagesOf s))) (Argument Page) (refuseIf (not (inFrame (entryOf s p))) NoFrame Go) (a .1) in
     let d = went (not (inFrame (entryOf s p))) NoFrame Go (b .1) in
-    (a .0, ltb-true p (pagesOf s) (holds (ltb p (pagesOf s)) (b .0)), holds (inFrame (entryOf s p)) (d .0))
+    (a .0, ltb-true p (pagesOf s) (not-false (ltb p (pagesOf s)) (b .0)), not-false (inFrame (entryOf s p)) (d .0))
 
 module _ (s : Lent) (x : ℕ) where
   abbrev k : ℕ
@@ -76,7 +70,7 @@ module _ (s : Lent) (x : ℕ) where
       let d = went (not (isLive (s .lost .tables) x)) NotLive room (b .1) in
       let f = went (ltb (spanOf s) (loggedOf s + k)) LogFull numbers (d .1) in
       let g = went (ltb 4294967295 (lastOf s + k)) NumbersEnd Go (f .1) in
-      (a .0, holds (isNumber x) (b .0), ltb-false (spanOf s) (loggedOf s + k) (f .0), ltb-false 4294967295 (lastOf s + k) (g .0))
+      (a .0, not-false (isNumber x) (b .0), ltb-false (spanOf s) (loggedOf s + k) (f .0), ltb-false 4294967295 (lastOf s + k) (g .0))
 
 module _ (s : Lent) (n x p offset w : ℕ) where
   abbrev r8 : Verdict
@@ -109,25 +103,14 @@ module _ (s : Lent) (n x p offset w : ℕ) where
       let h = went (ltb n w) ShortBuffer r7 (g .1) in
       let i = went (not (isLive (s .lost .tables) x)) NotLive r8 (h .1) in
       let j = went (held (onlineOf s) x p offset w) Held Go (i .1) in
-      (a .0, holds (ltb p (pagesOf s)) (b .0), holds (isNumber x) (d .0), holds (leb (offset + w) (sizeOf s)) (g .0), h .0, holds (isLive (s .lost .tables) x) (i .0), j .0)
+      (a .0, not-false (ltb p (pagesOf s)) (b .0), not-false (isNumber x) (d .0), not-false (leb (offset + w) (sizeOf s)) (g .0), h .0, not-false (isLive (s .lost .tables) x) (i .0), j .0)
 
   pub read-went : judgeRead s n x p offset w ≡ Go → (sound s ≡ true) × (p < pagesOf s) × (offset + w ≤ sizeOf s) × (w ≤ n)
   read-went e = let a = read-tests e in (a .0, ltb-true p (pagesOf s) (a .1), leb-true (offset + w) (sizeOf s) (a .3), ltb-false n w (a .4))
 
-  -- whose read it is, and that nobody else holds a byte of it
+  -- whose read it is, and that nobody else not-false a byte of it
   pub read-whose : judgeRead s n x p offset w ≡ Go → (isNumber x ≡ true) × (isLive (s .lost .tables) x ≡ true) × (held (onlineOf s) x p offset w ≡ false)
   read-whose e = let a = read-tests e in (a .2, a .5, a .6)
-
-or-four : (a b c d : Bool) (n : ℕ) → (a ≡ true → n ≤ 8) → (b ≡ true → n ≤ 8) → (c ≡ true → n ≤ 8) → (d ≡ true → n ≤ 8) → (a || b || c || d) ≡ true → n ≤ 8
-or-four true b c d n f g h k e = f refl
-or-four false true c d n f g h k e = g refl
-or-four false false true d n f g h k e = h refl
-or-four false false false d n f g h k e = k e
-
-length-most : (w : ℕ) → isLength w ≡ true → w ≤ 8
-unfolding isLength
-length-most w e =
-    or-four (eqb w 1) (eqb w 2) (eqb w 4) (eqb w 8) w (λ h. omega (arith, eqb-true w 1 h)) (λ h. omega (arith, eqb-true w 2 h)) (λ h. omega (arith, eqb-true w 4 h)) (λ h. omega (arith, eqb-true w 8 h)) e
 
 module _ (s : Lent) (x p offset w kind v : ℕ) where
   abbrev u10 : Verdict
@@ -168,7 +151,7 @@ module _ (s : Lent) (x p offset w kind v : ℕ) where
       let j = went (not (isLive (s .lost .tables) x)) NotLive u9 (i .1) in
       let l = went (held (onlineOf s) x p offset w) Held u10 (j .1) in
       let m = went (ltb (roomOf s - countOf s) 1) OnlineFull Go (l .1) in
-      (a .0, holds (ltb p (pagesOf s)) (b .0), holds (isNumber x) (d .0), holds (isLength w) (f .0), holds (leb (offset + w) (sizeOf s)) (g .0), holds (ltb v (256 ^ w)) (h .0), holds (leb kind 1) (i .0), holds (isLive (s .lost .tables) x) (j .0), l .0, m .0)
+      (a .0, not-false (ltb p (pagesOf s)) (b .0), not-false (isNumber x) (d .0), not-false (isLength w) (f .0), not-false (leb (offset + w) (sizeOf s)) (g .0), not-false (ltb v (256 ^ w)) (h .0), not-false (leb kind 1) (i .0), not-false (isLive (s .lost .tables) x) (j .0), l .0, m .0)
 
   pub update-went : judgeUpdate s x p offset w kind v ≡ Go → (sound s ≡ true) × (p < pagesOf s) × (offset + w ≤ sizeOf s) × (w ≤ 8) × (countOf s < roomOf s) × (isNumber x ≡ true) × (kind ≤ 1)
   update-went e =
@@ -185,7 +168,7 @@ unfolding judgeCompact mayCompact
 compact-went s p a b e =
     let d = checked-went s (refuseIf (not (ltb p (pagesOf s))) (Argument Page) (refuseIf (not (between 1 a 512 && leb b 4294967295)) (Argument Parameter) Go)) e in
     let f = went (not (ltb p (pagesOf s))) (Argument Page) (refuseIf (not (between 1 a 512 && leb b 4294967295)) (Argument Parameter) Go) (d .1) in
-    (d .0, ltb-true p (pagesOf s) (holds (ltb p (pagesOf s)) (f .0)))
+    (d .0, ltb-true p (pagesOf s) (not-false (ltb p (pagesOf s)) (f .0)))
 
 pub checkpoint-went : (s : Lent) (a b : ℕ) → judgeCheckpoint s a b ≡ Go → sound s ≡ true
 unfolding judgeCheckpoint
@@ -200,7 +183,7 @@ unfolding judgeRestart
 restart-went s e =
     let a = went (not (soundDurable s)) NotSound (refuseIf (ltb (roomOf s) (length (enteringAll s))) OnlineFull Go) e in
     let b = went (ltb (roomOf s) (length (enteringAll s))) OnlineFull Go (a .1) in
-    (holds (soundDurable s) (a .0), ltb-false (roomOf s) (length (enteringAll s)) (b .0))
+    (not-false (soundDurable s) (a .0), ltb-false (roomOf s) (length (enteringAll s)) (b .0))
 
 pub format-went : (s : Lent) (size pages frames room span : ℕ) → judgeFormat s size pages frames room span ≡ Go → (inRange size pages frames room span ≡ true) × (length (s .durable .fixed) ≡ 20) × (exactLengths s size pages frames room span ≡ true)
 unfolding judgeFormat
@@ -208,21 +191,22 @@ format-went s size pages frames room span e =
     let fits : Bool = eqb (length (s .durable .fixed)) 20 && exactLengths s size pages frames room span in
     let a = went (not (inRange size pages frames room span)) (Argument Parameter) (refuseIf (not fits) (Argument LentLength) Go) e in
     let b = went (not fits) (Argument LentLength) Go (a .1) in
-    let d : fits ≡ true = holds fits (b .0) in (
-      holds (inRange size pages frames room span) (a .0),
-      eqb-true (length (s .durable .fixed)) 20 (and-left (eqb (length (s .durable .fixed)) 20) (exactLengths s size pages frames room span) d),
-      and-right (eqb (length (s .durable .fixed)) 20) (exactLengths s size pages frames room span) d,
-    )
+    let d = and-both (eqb (length (s .durable .fixed)) 20) (exactLengths s size pages frames room span) (not-false fits (b .0)) in
+    (not-false (inRange size pages frames room span) (a .0), eqb-true (length (s .durable .fixed)) 20 (d .0), d .1)
 
 -- rows past the counts are zero
 pub log-zero : (s : Lent) → sound s ≡ true → zeros (drop (loggedOf s * 14) (s .durable .log)) ≡ true
 unfolding soundDurable s14-log-zero
 log-zero s e =
-    and-right (s1-parameters s && s2-lengths s && s3-logged s && s16-logged s && s18-first s && s15-stamps s && s17-s19-dirty s && s7-log-records s) (s14-log-zero s) (sound-durable s e)
+    and-both (s1-parameters s && s2-lengths s && s3-logged s && s16-logged s && s18-first s && s15-stamps s && s17-s19-dirty s && s7-log-records s) (s14-log-zero s) (sound-durable s e) .1
 
 pub online-zero : (s : Lent) → sound s ≡ true → zeros (drop (countOf s * 19) (s .lost .online)) ≡ true
 unfolding soundLost s14-online-zero
 online-zero s e =
     let front : Bool = s3-counts s && s20-live s && s4-entries s && s5-frame-once s && s6-order s && s14-order-zero s && s7-online-records s && s8-owners s in
-    let h : (front && s14-online-zero s) ≡ true = and-left (front && s14-online-zero s) (s10-in-log s) (and-left (front && s14-online-zero s && s10-in-log s) (s11-above-stamp s) (and-left (front && s14-online-zero s && s10-in-log s && s11-above-stamp s) (s9-number-once s) (and-left (front && s14-online-zero s && s10-in-log s && s11-above-stamp s && s9-number-once s) (s12-dirty s) (and-left (front && s14-online-zero s && s10-in-log s && s11-above-stamp s && s9-number-once s && s12-dirty s) (s13-apart s) (sound-lost s e))))) in
-    and-right front (s14-online-zero s) h
+    let a₁ = and-both (front && s14-online-zero s && s10-in-log s && s11-above-stamp s && s9-number-once s && s12-dirty s) (s13-apart s) (sound-lost s e) .0 in
+    let a₂ = and-both (front && s14-online-zero s && s10-in-log s && s11-above-stamp s && s9-number-once s) (s12-dirty s) a₁ .0 in
+    let a₃ = and-both (front && s14-online-zero s && s10-in-log s && s11-above-stamp s) (s9-number-once s) a₂ .0 in
+    let a₄ = and-both (front && s14-online-zero s && s10-in-log s) (s11-above-stamp s) a₃ .0 in
+    let a₅ = and-both (front && s14-online-zero s) (s10-in-log s) a₄ .0 in
+    and-both front (s14-online-zero s) a₅ .1

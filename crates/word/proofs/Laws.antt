@@ -31,12 +31,6 @@ put-none s at w v =
     let b : at + 0 ≡ at = omega arith in
     rw (a, b)
 
--- bytes make a number below the power of their count
-pub num-below : (w : ℕ) (l : List ℕ) (at : ℕ) → ((i : ℕ) → getD l i 0 < 256) → num w l at < 256 ^ w
-unfolding num
-num-below zero l at h = omega arith
-num-below (suc w) l at h = rw pow-suc (omega (arith, h at, num-below w l (at + 1) h))
-
 -- a turn of `load`: the byte below those passed
 pub num-turn : (s : List ℕ) (at w i n : ℕ) → 0 < i → i ≤ w → n ≡ num (w - i) s (at + i) → n * 256 + getD s (at + (i - 1)) 0 ≡ num (w - (i - 1)) s (at + (i - 1))
 num-turn s at w i n p q e =

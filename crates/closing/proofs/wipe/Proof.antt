@@ -4,8 +4,8 @@ use native.Mathlib.Omega.{arith}
 use mathlib.Core.Path.{_≡_, refl}
 use mathlib.Core.List.{_++_}
 use lib.ListN.{length, drop, replicate}
-use Rattle.table.proofs.Moves.{wipe-turn, wipe-end}
 use borrow.Author.Needs.{needs}
+use Rattle.record.proofs.Laws.{wipe-turn, wipe-end}
 use Rattle.closing.proofs.wipe.Statement.{statement}
 use Rattle.closing.proofs.wipe.Tie as tie
 

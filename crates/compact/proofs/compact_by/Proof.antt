@@ -58,8 +58,7 @@ returns c =
     let a = s .args in
     let m = c .before .before .before .before .before .before .before .before .before .before .before .before .before .before .before .before .before .before .before .measure in
     let k = c .before .before .before .before .before .before .before .before .before .before .before .before .before .before .before .before .before .plan-for in
-    let q = planned-seen (now (a .fixed)) (now (a .tables)) (now (a .online)) (a .p .0) _ (m .result) (a .s) (k .result) (m .ensures) (s .pre .2) (k .ensures) in
-    (
+    let q = planned-seen (now (a .fixed)) (now (a .tables)) (now (a .online)) (a .p .0) _ (m .result) (a .s) (k .result) (m .ensures) (s .pre .2) (k .ensures) in (
       reads-done (now (a .fixed)) (now (a .marks)) (now (a .log)) (now (a .stored)) (now (a .tables)) (now (a .online)) (now (a .pool)) (a .p .0) (m .result) (k .result) (m .ensures) q,
       (
         writes-done (lentOf (now (a .fixed)) (now (a .marks)) (now (a .log)) (now (a .stored)) (now (a .tables)) (now (a .online)) (now (a .pool))) (a .p .0),

@@ -6,8 +6,9 @@ use denote.Ref.{now}
 use borrow.Author.Needs.{needs}
 use Rattle.record.specs.Record.{rowOf}
 use Rattle.rules.specs.Lent.{lentOf}
+use Rattle.table.proofs.Laws.{length-rowOf}
 use Rattle.fetch.proofs.Laws.{used-fits}
-use Rattle.fetch.proofs.Rows.{row-page, row-length, updated-row}
+use Rattle.fetch.proofs.Rows.{row-page, updated-row}
 use Rattle.fetch.proofs.update.Statement.{statement}
 use Rattle.fetch.proofs.update.Tie as tie
 
@@ -52,7 +53,7 @@ returns c =
     let h = c .before .before .before .before .before .before .before .before .before .before .before .before .before .before .before .before .before .before .before .before .before .before .before .before .before .before .before .before .pre in
     updated-row (lentOf (now (a .fixed)) (now (a .marks)) (now (a .log)) (now (a .stored)) (now (a .tables)) (now (a .online)) (now (a .pool))) (rowOf (a .p .0) (a .offset) (a .w) (a .kind) (a .v) (a .owner)) (a .p .0) _ _ _ _ _ _ _ _ _ _
     (row-page (a .p .0) (a .offset) (a .w) (a .kind) (a .v) (a .owner) (omega (arith, h .1, h .0 .sized .pages)))
-    (row-length (a .p .0) (a .offset) (a .w) (a .kind) (a .v) (a .owner))
+    (length-rowOf (a .p .0) (a .offset) (a .w) (a .kind) (a .v) (a .owner))
     (h .0) (h .4) (h .5)
     (c .before .before .before .before .before .before .before .before .before .before .before .before .before .before .before .before .before .before .before .before .load-sizes .ensures) (c .before .before .before .before .before .before .before .before .before .before .before .before .before .before .before .before .before .before .count-of .ensures .0) (c .before .before .before .before .before .before .before .before .before .before .before .before .before .before .change-page .ensures) (c .before .before .before .before .before .before .before .append .ensures) (c .before .before .apply-in .ensures)
 

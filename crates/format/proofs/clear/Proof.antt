@@ -5,7 +5,7 @@ use mathlib.Core.Path.{_≡_, refl}
 use mathlib.Core.List.{_++_}
 use lib.ListN.{length, drop, replicate}
 use borrow.Author.Needs.{needs}
-use Rattle.format.proofs.Laws.{clear-turn, clear-done}
+use Rattle.record.proofs.Laws.{wipe-turn, wipe-end}
 use Rattle.format.proofs.clear.Statement.{statement}
 use Rattle.format.proofs.clear.Tie as tie
 
@@ -28,13 +28,13 @@ loop-less : tie.Need-loop-less Inv-loop μ-loop
 loop-less c = search needs
 
 loop-again : tie.Need-loop-again Inv-loop μ-loop
-loop-again c = (search needs, clear-turn _ _ _ (omega arith) (c .before .loop .inv .1), search needs)
+loop-again c = (search needs, wipe-turn _ _ _ (omega arith) (c .before .loop .inv .1), search needs)
 
 same-length : tie.Need-same-length Inv-loop μ-loop
 same-length c = search needs
 
 returns : tie.Need-returns Inv-loop μ-loop
-returns c = clear-done _ _ _ (c .before .loop .inv .0) (omega arith) (c .before .loop .inv .1)
+returns c = wipe-end _ _ _ (c .before .loop .inv .0) (omega arith) (c .before .loop .inv .1)
 
 pub clear-spec : {M : Type 1} → statement M
 clear-spec =

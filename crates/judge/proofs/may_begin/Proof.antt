@@ -2,9 +2,10 @@
 use mathlib.Core.Path.{refl, ap, sym, _∙_}
 use mathlib.Core.Bool.{not}
 use borrow.Author.Needs.{needs}
+use Rattle.word.proofs.Tests.{so}
 use Rattle.rules.specs.Calls.{mayBegin}
-use Rattle.rules.proofs.Verdicts.{refused, passed}
-use Rattle.judge.proofs.Laws.{number-most, turned, same, unturned}
+use Rattle.rules.proofs.Verdicts.{refused, passed, number-most}
+use Rattle.judge.proofs.Laws.{turned, same}
 use Rattle.judge.proofs.may_begin.Statement.{statement}
 use Rattle.judge.proofs.may_begin.Tie as tie
 
@@ -16,7 +17,7 @@ unfolding mayBegin
 returns c = refused _ _ _ (turned _ _ _ (c .before .is-number .ensures) (c .if1 .taken))
 
 is-live-requires : tie.Need-is-live-requires
-is-live-requires c κs = (number-most _ (unturned _ _ (c .before .is-number .ensures) (c .if1 .left)), search needs)
+is-live-requires c κs = (number-most _ (so _ _ (c .before .is-number .ensures) (c .if1 .left)), search needs)
 
 returns-2 : tie.Need-returns-2
 unfolding mayBegin

@@ -3,9 +3,10 @@ use mathlib.Core.Path.{refl, ap, sym, _∙_}
 use mathlib.Core.Bool.{not}
 use borrow.Author.Needs.{needs}
 use borrow.Author.Tests.{eq-eqb, ne-eqb, lt-ltb, le-ltb}
+use Rattle.word.proofs.Tests.{so}
 use Rattle.rules.specs.Calls.{mayCommit}
-use Rattle.rules.proofs.Verdicts.{refused, passed}
-use Rattle.judge.proofs.Laws.{number-most, turned, same, unturned}
+use Rattle.rules.proofs.Verdicts.{refused, passed, number-most}
+use Rattle.judge.proofs.Laws.{turned}
 use Rattle.judge.proofs.may_commit.Statement.{statement}
 use Rattle.judge.proofs.may_commit.Tie as tie
 
@@ -17,7 +18,7 @@ unfolding mayCommit
 returns c = refused _ _ _ (turned _ _ _ (c .before .is-number .ensures) (c .if1 .taken))
 
 is-live-requires : tie.Need-is-live-requires
-is-live-requires c κs = (number-most _ (unturned _ _ (c .before .is-number .ensures) (c .if1 .left)), search needs)
+is-live-requires c κs = (number-most _ (so _ _ (c .before .is-number .ensures) (c .if1 .left)), search needs)
 
 returns-2 : tie.Need-returns-2
 unfolding mayCommit

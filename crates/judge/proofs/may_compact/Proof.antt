@@ -5,7 +5,7 @@ use borrow.Author.Needs.{needs}
 use borrow.Author.Tests.{eq-eqb, ne-eqb, lt-ltb, le-ltb}
 use Rattle.rules.specs.Calls.{mayCompact}
 use Rattle.rules.proofs.Verdicts.{refused, passed}
-use Rattle.judge.proofs.Laws.{number-most, turned, same, unturned}
+use Rattle.judge.proofs.Laws.{turned}
 use Rattle.judge.proofs.may_compact.Statement.{statement}
 use Rattle.judge.proofs.may_compact.Tie as tie
 

@@ -5,7 +5,6 @@ use borrow.Author.Needs.{needs}
 use borrow.Author.Tests.{eq-eqb, ne-eqb, lt-ltb, le-ltb}
 use Rattle.rules.specs.Calls.{mayEvict}
 use Rattle.rules.proofs.Verdicts.{refused, passed}
-use Rattle.judge.proofs.Laws.{number-most, turned, same, unturned}
 use mathlib.Core.Bool.{Bool}
 use Rattle.judge.proofs.may_evict.Statement.{statement}
 use Rattle.judge.proofs.may_evict.Tie as tie

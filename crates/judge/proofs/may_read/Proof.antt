@@ -2,9 +2,10 @@
 use mathlib.Core.Path.{refl, ap}
 use mathlib.Core.Bool.{not}
 use borrow.Author.Tests.{lt-ltb, le-ltb, le-leb, lt-leb}
+use Rattle.word.proofs.Tests.{so}
 use Rattle.rules.specs.Calls.{mayRead}
-use Rattle.rules.proofs.Verdicts.{refused, passed}
-use Rattle.judge.proofs.Laws.{number-most, turned, same, unturned}
+use Rattle.rules.proofs.Verdicts.{refused, passed, number-most}
+use Rattle.judge.proofs.Laws.{turned, same}
 use borrow.Author.Needs.{needs}
 use Rattle.judge.proofs.may_read.Statement.{statement}
 use Rattle.judge.proofs.may_read.Tie as tie
@@ -39,7 +40,7 @@ unfolding mayRead
 returns-5 c = passed _ _ _ _ (ap not (lt-ltb _ _ (c .before .before .before .before .before .before .if1 .left))) (passed _ _ _ _ (turned _ _ _ (c .before .before .before .before .before .is-number .ensures) (c .before .before .before .before .if2 .left)) (passed _ _ _ _ (turned _ _ _ (c .before .before .before .is-between .ensures) (c .before .before .if3 .left)) (passed _ _ _ _ (ap not (le-leb _ _ (c .before .if4 .left))) (refused _ _ _ (lt-ltb _ _ (c .if5 .taken))))))
 
 is-live-requires : tie.Need-is-live-requires
-is-live-requires c κs = (number-most _ (unturned _ _ (c .before .before .before .before .before .is-number .ensures) (c .before .before .before .before .if2 .left)), search needs)
+is-live-requires c κs = (number-most _ (so _ _ (c .before .before .before .before .before .is-number .ensures) (c .before .before .before .before .if2 .left)), search needs)
 
 returns-6 : tie.Need-returns-6
 unfolding mayRead

@@ -2,9 +2,10 @@
 use mathlib.Core.Path.{refl, ap}
 use mathlib.Core.Bool.{not}
 use borrow.Author.Tests.{lt-ltb, le-ltb, le-leb, lt-leb}
+use Rattle.word.proofs.Tests.{so}
 use Rattle.rules.specs.Calls.{mayUpdate}
-use Rattle.rules.proofs.Verdicts.{refused, passed}
-use Rattle.judge.proofs.Laws.{number-most, turned, same, unturned}
+use Rattle.rules.proofs.Verdicts.{refused, passed, number-most}
+use Rattle.judge.proofs.Laws.{turned, same}
 use borrow.Author.Needs.{needs}
 use Rattle.judge.proofs.may_update.Statement.{statement}
 use Rattle.judge.proofs.may_update.Tie as tie
@@ -35,7 +36,7 @@ unfolding mayUpdate
 returns-4 c = passed _ _ _ _ (ap not (lt-ltb _ _ (c .before .before .before .before .before .if1 .left))) (passed _ _ _ _ (turned _ _ _ (c .before .before .before .before .is-number .ensures) (c .before .before .before .if2 .left)) (passed _ _ _ _ (turned _ _ _ (c .before .before .is-length .ensures) (c .before .if3 .left)) (refused _ _ _ (ap not (lt-leb _ _ (c .if4 .taken))))))
 
 is-value-requires : tie.Need-is-value-requires
-is-value-requires c κs = unturned _ _ (c .before .before .is-length .ensures) (c .before .if3 .left)
+is-value-requires c κs = so _ _ (c .before .before .is-length .ensures) (c .before .if3 .left)
 
 returns-5 : tie.Need-returns-5
 unfolding mayUpdate
@@ -46,7 +47,7 @@ unfolding mayUpdate
 returns-6 c = passed _ _ _ _ (ap not (lt-ltb _ _ (c .before .before .before .before .before .before .before .before .if1 .left))) (passed _ _ _ _ (turned _ _ _ (c .before .before .before .before .before .before .before .is-number .ensures) (c .before .before .before .before .before .before .if2 .left)) (passed _ _ _ _ (turned _ _ _ (c .before .before .before .before .before .is-length .ensures) (c .before .before .before .before .if3 .left)) (passed _ _ _ _ (ap not (le-leb _ _ (c .before .before .before .if4 .left))) (passed _ _ _ _ (turned _ _ _ (c .before .before .is-value .ensures) (c .before .if5 .left)) (refused _ _ _ (ap not (lt-leb _ _ (c .if6 .taken))))))))
 
 is-live-requires : tie.Need-is-live-requires
-is-live-requires c κs = (number-most _ (unturned _ _ (c .before .before .before .before .before .before .before .is-number .ensures) (c .before .before .before .before .before .before .if2 .left)), search needs)
+is-live-requires c κs = (number-most _ (so _ _ (c .before .before .before .before .before .before .before .is-number .ensures) (c .before .before .before .before .before .before .if2 .left)), search needs)
 
 returns-7 : tie.Need-returns-7
 unfolding mayUpdate

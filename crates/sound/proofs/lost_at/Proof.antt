@@ -2,9 +2,10 @@
 use native.Mathlib.Omega.{arith}
 use mathlib.Core.Path.{sym, _∙_}
 use denote.Ref.{now}
+use Rattle.word.proofs.Tests.{so}
 use Rattle.onlinecheck.specs.Online.{onlineTest}
 use Rattle.pagetable.proofs.Laws.{count-within}
-use Rattle.sound.proofs.Laws.{and-refused, and-kept, was-true}
+use Rattle.sound.proofs.Laws.{and-refused, and-kept}
 use borrow.Author.Needs.{needs}
 use Rattle.sound.proofs.lost_at.Statement.{statement}
 use Rattle.sound.proofs.lost_at.Tie as tie
@@ -25,10 +26,10 @@ load-requires-3 : tie.Need-load-requires-3
 load-requires-3 c κs = omega (arith, c .before .before .before .before .before .before .before .before .pre .5)
 
 sound-online-requires : tie.Need-sound-online-requires
-sound-online-requires c κs = omega (arith, c .before .before .before .before .before .before .before .before .before .pre, c .before .before .load .ensures .0, c .before .load2 .ensures .0, c .load3 .ensures .0, c .load3 .ensures .1, count-within (now (c .before .before .before .before .before .before .before .before .before .args .tables)) (c .before .before .before .before .before .before .before .before .before .args .pages) (c .before .before .before .before .before .before .before .before .before .args .frames) (c .before .before .before .before .before .before .before .before .before .args .room) (was-true _ _ (c .before .before .before .before .sound-tables .ensures) (c .before .before .before .if1 .left)))
+sound-online-requires c κs = omega (arith, c .before .before .before .before .before .before .before .before .before .pre, c .before .before .load .ensures .0, c .before .load2 .ensures .0, c .load3 .ensures .0, c .load3 .ensures .1, count-within (now (c .before .before .before .before .before .before .before .before .before .args .tables)) (c .before .before .before .before .before .before .before .before .before .args .pages) (c .before .before .before .before .before .before .before .before .before .args .frames) (c .before .before .before .before .before .before .before .before .before .args .room) (so _ _ (c .before .before .before .before .sound-tables .ensures) (c .before .before .before .if1 .left)))
 
 returns-2 : tie.Need-returns-2
-returns-2 c = and-kept _ _ _ (was-true _ _ (c .before .before .before .before .before .sound-tables .ensures) (c .before .before .before .before .if1 .left)) (c .sound-online .ensures ∙ (λ i. onlineTest (now (c .before .before .before .before .before .before .before .before .before .before .args .online)) (c .before .before .before .load .ensures .0 i) (now (c .before .before .before .before .before .before .before .before .before .before .args .log)) (c .before .before .load2 .ensures .0 i) (now (c .before .before .before .before .before .before .before .before .before .before .args .marks)) (now (c .before .before .before .before .before .before .before .before .before .before .args .tables)) (c .before .before .before .before .before .before .before .before .before .before .args .size) (c .before .before .before .before .before .before .before .before .before .before .args .pages) (c .before .before .before .before .before .before .before .before .before .before .args .frames) (c .before .load3 .ensures .0 i)))
+returns-2 c = and-kept _ _ _ (so _ _ (c .before .before .before .before .before .sound-tables .ensures) (c .before .before .before .before .if1 .left)) (c .sound-online .ensures ∙ (λ i. onlineTest (now (c .before .before .before .before .before .before .before .before .before .before .args .online)) (c .before .before .before .load .ensures .0 i) (now (c .before .before .before .before .before .before .before .before .before .before .args .log)) (c .before .before .load2 .ensures .0 i) (now (c .before .before .before .before .before .before .before .before .before .before .args .marks)) (now (c .before .before .before .before .before .before .before .before .before .before .args .tables)) (c .before .before .before .before .before .before .before .before .before .before .args .size) (c .before .before .before .before .before .before .before .before .before .before .args .pages) (c .before .before .before .before .before .before .before .before .before .before .args .frames) (c .before .load3 .ensures .0 i)))
 
 pub lost-at-spec : {M : Type 1} → statement M
 lost-at-spec =

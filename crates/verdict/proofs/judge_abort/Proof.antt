@@ -1,5 +1,6 @@
 -- `verdict::judge_abort` meets its contract: the check first, then the case of `judgeAbort` that the call's own tests pick.
-use Rattle.judge.proofs.Laws.{turned, unturned}
+use Rattle.word.proofs.Tests.{so}
+use Rattle.judge.proofs.Laws.{turned}
 use Rattle.rules.proofs.Verdicts.{refused, passed}
 use Rattle.sound.proofs.Laws.{sound-shaped}
 use Rattle.rules.specs.Lent.{lentOf}
@@ -18,7 +19,7 @@ unfolding judgeAbort
 returns c = refused _ _ _ (turned _ _ _ (c .before .is-sound .ensures) (c .if1 .taken))
 
 may-abort-requires : tie.Need-may-abort-requires
-may-abort-requires c κs = omega (arith, sound-shaped (lentOf (now (c .before .before .before .before .before .before .before .before .before .args .fixed)) (now (c .before .before .before .before .before .before .before .before .before .args .marks)) (now (c .before .before .before .before .before .before .before .before .before .args .log)) (now (c .before .before .before .before .before .before .before .before .before .args .stored)) (now (c .before .before .before .before .before .before .before .before .before .args .tables)) (now (c .before .before .before .before .before .before .before .before .before .args .online)) (now (c .before .before .before .before .before .before .before .before .before .args .pool))) (unturned _ _ (c .before .is-sound .ensures) (c .if1 .left)))
+may-abort-requires c κs = omega (arith, sound-shaped (lentOf (now (c .before .before .before .before .before .before .before .before .before .args .fixed)) (now (c .before .before .before .before .before .before .before .before .before .args .marks)) (now (c .before .before .before .before .before .before .before .before .before .args .log)) (now (c .before .before .before .before .before .before .before .before .before .args .stored)) (now (c .before .before .before .before .before .before .before .before .before .args .tables)) (now (c .before .before .before .before .before .before .before .before .before .args .online)) (now (c .before .before .before .before .before .before .before .before .before .args .pool))) (so _ _ (c .before .is-sound .ensures) (c .if1 .left)))
 
 returns-2 : tie.Need-returns-2
 unfolding judgeAbort

@@ -1,5 +1,6 @@
 -- `verdict::judge_format` meets its contract: the parameters first, then the lent lengths.
-use Rattle.judge.proofs.Laws.{turned, unturned}
+use Rattle.word.proofs.Tests.{so}
+use Rattle.judge.proofs.Laws.{turned}
 use Rattle.rules.proofs.Verdicts.{refused, passed}
 use mathlib.Core.Path.{refl}
 use Rattle.rules.specs.Calls.{judgeFormat}
@@ -15,7 +16,7 @@ unfolding judgeFormat
 returns c = refused _ _ _ (turned _ _ _ (c .before .in-range .ensures) (c .if1 .taken))
 
 lengths-requires : tie.Need-lengths-requires
-lengths-requires c κs = unturned _ _ (c .before .in-range .ensures) (c .if1 .left)
+lengths-requires c κs = so _ _ (c .before .in-range .ensures) (c .if1 .left)
 
 returns-2 : tie.Need-returns-2
 unfolding judgeFormat

@@ -1,5 +1,6 @@
 -- `verdict::judge_read` meets its contract: the check first, then the case of `judgeRead` that the call's own tests pick.
-use Rattle.judge.proofs.Laws.{turned, unturned}
+use Rattle.word.proofs.Tests.{so}
+use Rattle.judge.proofs.Laws.{turned}
 use Rattle.rules.proofs.Verdicts.{refused, passed}
 use Rattle.sound.proofs.Laws.{sound-shaped}
 use Rattle.rules.specs.Lent.{lentOf}
@@ -20,13 +21,13 @@ unfolding judgeRead
 returns c = refused _ _ _ (turned _ _ _ (c .before .is-sound .ensures) (c .if1 .taken))
 
 params-of-requires : tie.Need-params-of-requires
-params-of-requires c κs = sound-shaped (lentOf (now (c .before .before .before .before .before .before .before .before .before .args .fixed)) (now (c .before .before .before .before .before .before .before .before .before .args .marks)) (now (c .before .before .before .before .before .before .before .before .before .args .log)) (now (c .before .before .before .before .before .before .before .before .before .args .stored)) (now (c .before .before .before .before .before .before .before .before .before .args .tables)) (now (c .before .before .before .before .before .before .before .before .before .args .online)) (now (c .before .before .before .before .before .before .before .before .before .args .pool))) (unturned _ _ (c .before .is-sound .ensures) (c .if1 .left)) .sized .fixed
+params-of-requires c κs = sound-shaped (lentOf (now (c .before .before .before .before .before .before .before .before .before .args .fixed)) (now (c .before .before .before .before .before .before .before .before .before .args .marks)) (now (c .before .before .before .before .before .before .before .before .before .args .log)) (now (c .before .before .before .before .before .before .before .before .before .args .stored)) (now (c .before .before .before .before .before .before .before .before .before .args .tables)) (now (c .before .before .before .before .before .before .before .before .before .args .online)) (now (c .before .before .before .before .before .before .before .before .before .args .pool))) (so _ _ (c .before .is-sound .ensures) (c .if1 .left)) .sized .fixed
 
 load-requires : tie.Need-load-requires
-load-requires c κs = omega (arith, sound-shaped (lentOf (now (c .before .before .before .before .before .before .before .before .before .before .args .fixed)) (now (c .before .before .before .before .before .before .before .before .before .before .args .marks)) (now (c .before .before .before .before .before .before .before .before .before .before .args .log)) (now (c .before .before .before .before .before .before .before .before .before .before .args .stored)) (now (c .before .before .before .before .before .before .before .before .before .before .args .tables)) (now (c .before .before .before .before .before .before .before .before .before .before .args .online)) (now (c .before .before .before .before .before .before .before .before .before .before .args .pool))) (unturned _ _ (c .before .before .is-sound .ensures) (c .before .if1 .left)))
+load-requires c κs = omega (arith, sound-shaped (lentOf (now (c .before .before .before .before .before .before .before .before .before .before .args .fixed)) (now (c .before .before .before .before .before .before .before .before .before .before .args .marks)) (now (c .before .before .before .before .before .before .before .before .before .before .args .log)) (now (c .before .before .before .before .before .before .before .before .before .before .args .stored)) (now (c .before .before .before .before .before .before .before .before .before .before .args .tables)) (now (c .before .before .before .before .before .before .before .before .before .before .args .online)) (now (c .before .before .before .before .before .before .before .before .before .before .args .pool))) (so _ _ (c .before .before .is-sound .ensures) (c .before .if1 .left)))
 
 may-read-requires : tie.Need-may-read-requires
-may-read-requires c κs = omega (arith, sound-shaped (lentOf (now (c .before .before .before .before .before .before .before .before .before .before .before .args .fixed)) (now (c .before .before .before .before .before .before .before .before .before .before .before .args .marks)) (now (c .before .before .before .before .before .before .before .before .before .before .before .args .log)) (now (c .before .before .before .before .before .before .before .before .before .before .before .args .stored)) (now (c .before .before .before .before .before .before .before .before .before .before .before .args .tables)) (now (c .before .before .before .before .before .before .before .before .before .before .before .args .online)) (now (c .before .before .before .before .before .before .before .before .before .before .before .args .pool))) (unturned _ _ (c .before .before .before .is-sound .ensures) (c .before .before .if1 .left)), c .load .ensures .0)
+may-read-requires c κs = omega (arith, sound-shaped (lentOf (now (c .before .before .before .before .before .before .before .before .before .before .before .args .fixed)) (now (c .before .before .before .before .before .before .before .before .before .before .before .args .marks)) (now (c .before .before .before .before .before .before .before .before .before .before .before .args .log)) (now (c .before .before .before .before .before .before .before .before .before .before .before .args .stored)) (now (c .before .before .before .before .before .before .before .before .before .before .before .args .tables)) (now (c .before .before .before .before .before .before .before .before .before .before .before .args .online)) (now (c .before .before .before .before .before .before .before .before .before .before .before .args .pool))) (so _ _ (c .before .before .before .is-sound .ensures) (c .before .before .if1 .left)), c .load .ensures .0)
 
 returns-2 : tie.Need-returns-2
 unfolding judgeRead

@@ -4,8 +4,8 @@ use mathlib.Core.Path.{_≡_, refl}
 use mathlib.Core.List.{_++_}
 use native.Mathlib.Omega.{arith}
 use lib.ListN.{length, drop, replicate}
-use Rattle.table.proofs.Moves.{wipe-turn, wipe-end}
 use borrow.Author.Needs.{needs}
+use Rattle.record.proofs.Laws.{wipe-turn, wipe-end}
 use Rattle.table.proofs.bytes.wipe.Statement.{statement}
 use Rattle.table.proofs.bytes.wipe.Tie as tie
 

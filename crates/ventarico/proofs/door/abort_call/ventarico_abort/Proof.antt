@@ -1,11 +1,11 @@
 -- `ventarico_abort` keeps its promise: refused as `judgeAbort` says, else done as `aborted` says.
+use Rattle.rules.proofs.Verdicts.{number-most}
 use Rattle.ventarico.proofs.Laws.{told-refused, told-done}
 use Rattle.sound.proofs.Laws.{sound-shaped}
 use Rattle.rules.specs.Lent.{lentOf}
 use denote.Ref.{now}
 use mathlib.Core.Path.{sym, _∙_}
 use native.Mathlib.Omega.{arith}
-use Rattle.steps.proofs.Laws.{number-most}
 use mathlib.Core.List.{[]}
 use Rattle.rules.specs.Calls.{doneWith, judgeAbort, abortCall}
 use Rattle.rules.specs.Steps.{aborted}

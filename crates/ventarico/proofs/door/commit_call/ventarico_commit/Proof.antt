@@ -1,4 +1,5 @@
 -- `ventarico_commit` keeps its promise: refused as `judgeCommit` says, else done as `committing` says.
+use Rattle.rules.proofs.Verdicts.{number-most, number-least}
 use Rattle.ventarico.proofs.Laws.{told-refused, told-done}
 use Rattle.ventarico.specs.Said.{doneAs}
 use Rattle.sound.proofs.Laws.{sound-shaped}
@@ -6,7 +7,6 @@ use Rattle.rules.specs.Lent.{lentOf}
 use denote.Ref.{now}
 use mathlib.Core.Path.{ap, sym, _∙_}
 use native.Mathlib.Omega.{arith}
-use Rattle.steps.proofs.Laws.{number-most, number-least}
 use Prim.Native.Nat.{ℕ}
 use mathlib.Core.List.{[]}
 use Rattle.rules.specs.Calls.{doneWith, judgeCommit, commitCall}

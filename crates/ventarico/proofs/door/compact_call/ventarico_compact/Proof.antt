@@ -1,5 +1,6 @@
 -- `ventarico_compact` keeps its promise: refused as `judgeCompact` says, else not due, or compacted.
-use Rattle.ventarico.proofs.Laws.{told-refused, told-not-due, told-due, not-so, so}
+use Rattle.word.proofs.Tests.{so, not-so}
+use Rattle.ventarico.proofs.Laws.{told-refused, told-not-due, told-due}
 use Rattle.ventarico.specs.Said.{doneAs}
 use Rattle.sound.proofs.Laws.{sound-shaped}
 use Rattle.rules.specs.Lent.{lentOf}

@@ -1,4 +1,5 @@
 -- `ventarico_update` keeps its promise: refused as `judgeUpdate` says, else done as `its step` says.
+use Rattle.rules.proofs.Verdicts.{number-most}
 use Rattle.ventarico.proofs.Laws.{told-refused, told-done}
 use Rattle.ventarico.specs.Said.{doneAs}
 use Rattle.sound.proofs.Laws.{sound-shaped}
@@ -8,7 +9,6 @@ use mathlib.Core.Path.{ap, sym, _∙_}
 use native.Mathlib.Omega.{arith}
 use Rattle.record.specs.Record.{rowOf}
 use lib.ListN.{length}
-use Rattle.steps.proofs.Laws.{number-most}
 use Prim.Native.Nat.{ℕ}
 use mathlib.Core.List.{[]}
 use Rattle.rules.specs.Calls.{doneWith, judgeUpdate, updateCall}
