@@ -4,22 +4,23 @@ use native.Mathlib.Omega.{arith}
 use native.Mathlib.Numerals.{add-one}
 use native.Mathlib.Nat.{mul-le-mul, div-eq-of-lt, div-lt-iff-lt-mul}
 use mathlib.Core.Path.{_≡_, refl, sym, ap, subst, _∙_}
-use mathlib.Core.Bool.{Bool, true, false, cond, not, _&&_, _||_, and-true, and-assoc}
+use mathlib.Core.Bool.{Bool, true, false, cond, not, _&&_, _||_, and-true, and-false, and-comm, and-assoc}
 use mathlib.Core.List.{List}
 use lib.ListN.{length, getD, take, drop, length-drop, drop-of-length-le}
 use lib.Seq.{drop-cons, take-all}
 use lib.Pow.{pow-pos, shr-shr}
 use lib.Dec.{eqb, leb, ltb, lit<, leb·suc-suc}
-use borrow.Author.Tests.{eqb-true, leb-true, eq-eqb, ne-eqb, le-leb, lt-leb, lt-ltb, le-ltb, ltb-true, ltb-false, not-true, not-false}
+use borrow.Author.Tests.{eqb-true, eqb-false, leb-true, eq-eqb, ne-eqb, le-leb, lt-leb, lt-ltb, le-ltb, ltb-true, ltb-false, not-true, not-false}
 use Rattle.word.proofs.Tests.{and-both}
 use Rattle.record.specs.Rows.{rowAt, rows}
 use Rattle.record.specs.Record.{pageOf, offsetOf, lengthOf, kindOf, valueOf, isLength, wellFormed}
 use Rattle.word.specs.Word.{num}
-use Rattle.rules.specs.Lent.{Lent, sizeOf, pagesOf, framesOf, roomOf, spanOf, lastOf, loggedOf, logOf, stampAt, dirtyAt}
+use Rattle.rules.specs.Lent.{Lent, sizeOf, pagesOf, framesOf, roomOf, spanOf, lastOf, loggedOf, logOf, dirtyAt}
 use Rattle.rules.specs.Sound.{every, upTo, zeros, between, isPageSize, inRange, exactLengths, s1-parameters, s2-lengths, s3-logged, s16-logged, s18-first, s15-stamps, s17-s19-dirty, s7-log-records, s14-log-zero, soundDurable}
 use Rattle.rules.specs.Shape.{Sized}
+use Rattle.rules.proofs.Clauses.{upTo-same, upTo-both}
 use Rattle.durable.specs.Limits.{placesOf, mostValues}
-use Rattle.durable.specs.Marks.{isRecord, soundCounts, stampWithin, soundStamps, soundDirty, dirtyWithin, soundDirties, soundMarks}
+use Rattle.durable.specs.Marks.{isRecord, soundCounts, numberWithin, soundStamps, soundDirty, dirtyFrom, dirtyWithin, soundDirties, soundMarks}
 use Rattle.durable.specs.Ranges.{Ranged}
 
 -- tests in a row
@@ -93,14 +94,24 @@ module _ (b : List ℕ → Bool) (w : ℕ) (t : List ℕ) (n : ℕ) where
       let e : n - i ≡ 0 = omega arith in
       rw e at inv
 
--- a loop that joins the tests of bytes that are to be zero
-pub zeros-turn : (l : List ℕ) (i : ℕ) (ok x : Bool) → i < length l → (ok && zeros (drop i l)) ≡ x → (ok && eqb (getD l i 0) 0 && zeros (drop (i + 1) l)) ≡ x
-unfolding zeros every
-zeros-turn l i ok x p inv = rw add-one (and-assoc ok (eqb (getD l i 0) 0) (zeros (drop (suc i) l)) ∙ (rw (drop-cons l i 0 p) at inv))
+-- a loop that keeps the greatest of bytes that are to be zero: a turn, where the byte is greater and where it is not, and the end
+pub most-new : (a b m : ℕ) → m ≡ b → a < b → eqb m 0 ≡ (eqb a 0 && eqb b 0)
+most-new a b m e h = rw (e, ne-eqb b 0 (λ z. omega arith), and-false)
 
-pub zeros-done : (l : List ℕ) (i : ℕ) (ok x : Bool) → length l ≤ i → (ok && zeros (drop i l)) ≡ x → ok ≡ x
+pub most-kept : (a b m : ℕ) → m ≡ a → b ≤ a → eqb m 0 ≡ (eqb a 0 && eqb b 0)
+most-kept a b m e h = rw e (pick (eqb a 0) refl)
+  where
+    pick : (t : Bool) → eqb a 0 ≡ t → t ≡ (t && eqb b 0)
+    pick true k = let z = eqb-true a 0 k in sym (eq-eqb b 0 (omega arith))
+    pick false k = refl
+
+pub zeros-turn : (l : List ℕ) (i a m : ℕ) (x : Bool) → i < length l → eqb m 0 ≡ (eqb a 0 && eqb (getD l i 0) 0) → (eqb a 0 && zeros (drop i l)) ≡ x → (eqb m 0 && zeros (drop (i + 1) l)) ≡ x
 unfolding zeros every
-zeros-done l i ok x p inv = sym (and-true ok) ∙ (rw (drop-of-length-le l {i = i} p) at inv)
+zeros-turn l i a m x p e inv = rw (add-one, e) (and-assoc (eqb a 0) (eqb (getD l i 0) 0) (zeros (drop (suc i) l)) ∙ (rw (drop-cons l i 0 p) at inv))
+
+pub zeros-done : (l : List ℕ) (i a : ℕ) (x : Bool) → length l ≤ i → (eqb a 0 && zeros (drop i l)) ≡ x → eqb a 0 ≡ x
+unfolding zeros every
+zeros-done l i a x p inv = sym (and-true (eqb a 0)) ∙ (rw (drop-of-length-le l {i = i} p) at inv)
 
 -- what is lent of a list from a place on
 pub rest-lent : (l : List ℕ) (a : ℕ) → take (length l - a) (drop a l) ≡ drop a l
@@ -222,13 +233,38 @@ counts-last last closed n span h k = rw (le-leb n span h, lt-leb n last k)
 pub counts-first : (last closed n span : ℕ) → n ≤ span → n ≤ last → leb (last - n + 1) (closed + 1) ≡ soundCounts last closed n span
 counts-first last closed n span h k = rw (le-leb n span h, le-leb n last k)
 
--- `page_stamps`: the stamp tested is the page's
-pub stamp-read : (marks : List ℕ) (last p r : ℕ) → r ≡ num 4 marks (stampAt p) → leb r last ≡ stampWithin marks last p
-stamp-read marks last p r e = ap (λ (x : ℕ). leb x last) e
+-- `all_at_most`: the number tested is the page's
+pub number-read : (marks : List ℕ) (at most p r : ℕ) → r ≡ num 4 marks (at + 4 * p) → leb r most ≡ numberWithin marks at most p
+number-read marks at most p r e = ap (λ (x : ℕ). leb x most) e
 
--- `dirty_numbers`: the number tested is the page's
-pub dirty-read : (marks : List ℕ) (pages first closed p d : ℕ) (r : Bool) → d ≡ num 4 marks (dirtyAt pages p) → r ≡ soundDirty first closed d → r ≡ dirtyWithin marks pages first closed p
-dirty-read marks pages first closed p d r e h = h ∙ ap (soundDirty first closed) e
+-- `none_before`: one less than none is the greatest number, and one less than another is at least the number before the first where that one is at least the first
+below-test : (d below r : ℕ) → below < 4294967296 → r < 4294967296 → (r + 1) % 4294967296 ≡ d → leb below r ≡ (eqb d 0 || leb (below + 1) d)
+below-test d below r hb hr e = pick (eqb d 0) refl
+  where
+    pick : (t : Bool) → eqb d 0 ≡ t → leb below r ≡ (t || leb (below + 1) d)
+    pick true k = let z = eqb-true d 0 k in le-leb below r (omega arith)
+    pick false k =
+        let z = eqb-false d 0 k in
+        let f : d ≡ r + 1 = omega arith in
+        rw (f, add-one below, add-one r) (sym (leb·suc-suc below r))
+
+pub dirty-read : (marks : List ℕ) (pages below p d r : ℕ) → below < 4294967296 → r < 4294967296 → d ≡ num 4 marks (dirtyAt pages p) → (r + 1) % 4294967296 ≡ d → leb below r ≡ dirtyFrom marks pages (below + 1) p
+dirty-read marks pages below p d r hb hr e h = below-test d below r hb hr h ∙ ap (λ (x : ℕ). eqb x 0 || leb (below + 1) x) e
+
+-- `dirty_numbers`: both loops together test each number
+dirty-parts : (first closed d : ℕ) → soundDirty first closed d ≡ (leb d closed && (eqb d 0 || leb first d))
+dirty-parts first closed d = pick (eqb d 0) refl
+  where
+    pick : (t : Bool) → eqb d 0 ≡ t → (t || between first d closed) ≡ (leb d closed && (t || leb first d))
+    pick true k = let z = eqb-true d 0 k in rw (le-leb d closed (omega arith))
+    pick false k = and-comm (leb first d) (leb d closed)
+
+pub dirty-found : (marks : List ℕ) (pages first closed : ℕ) (a b : Bool) → a ≡ upTo (numberWithin marks (12 + 4 * pages) closed) pages 0 → b ≡ upTo (dirtyFrom marks pages first) pages 0 → (a && b) ≡ soundDirties marks pages first closed
+dirty-found marks pages first closed a b e f =
+    rw (e, f) (sym (
+    upTo-same (dirtyWithin marks pages first closed) (λ (p : ℕ). numberWithin marks (12 + 4 * pages) closed p && dirtyFrom marks pages first p) (λ p. dirty-parts first closed (num 4 marks (dirtyAt pages p))) pages 0
+    ∙ upTo-both (numberWithin marks (12 + 4 * pages) closed) (dirtyFrom marks pages first) pages 0
+    ))
 
 -- `stamps` and `sound_log`: what a call found stands behind a test
 pub and-found : (a b r : Bool) → r ≡ b → (a && r) ≡ (a && b)

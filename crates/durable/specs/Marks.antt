@@ -18,6 +18,10 @@ isRecord size pages page offset w kind v = ltb page pages && isLength w && leb (
 abbrev pub soundCounts : ℕ → ℕ → ℕ → ℕ → Bool
 soundCounts last closed n span = leb n span && leb n last && leb (last - n + 1) (closed + 1)
 
+-- page p's number in the column from `at` on is at most `most`
+abbrev pub numberWithin : List ℕ → ℕ → ℕ → ℕ → Bool
+numberWithin marks at most p = leb (num 4 marks (at + 4 * p)) most
+
 -- K and every stamp at most L
 abbrev pub stampWithin : List ℕ → ℕ → ℕ → Bool
 stampWithin marks last p = leb (num 4 marks (stampAt p)) last
@@ -31,6 +35,10 @@ soundDirty first closed d = eqb d 0 || between first d closed
 
 abbrev pub dirtyWithin : List ℕ → ℕ → ℕ → ℕ → ℕ → Bool
 dirtyWithin marks pages first closed p = soundDirty first closed (num 4 marks (dirtyAt pages p))
+
+-- page p's dirty number is none, or from the log's first number on
+abbrev pub dirtyFrom : List ℕ → ℕ → ℕ → ℕ → Bool
+dirtyFrom marks pages first p = eqb (num 4 marks (dirtyAt pages p)) 0 || leb first (num 4 marks (dirtyAt pages p))
 
 abbrev pub soundDirties : List ℕ → ℕ → ℕ → ℕ → Bool
 soundDirties marks pages first closed = upTo (dirtyWithin marks pages first closed) pages 0

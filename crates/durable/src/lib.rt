@@ -12,21 +12,24 @@ ghost use Rattle.record.specs.Record.{isLength, wellFormed};
 ghost use Rattle.rules.specs.Lent.{lentOf};
 ghost use Rattle.rules.specs.Sound.{every, upTo, zeros, isPageSize, inRange, exactLengths, soundDurable};
 ghost use Rattle.durable.specs.Limits.{placesOf, mostValues};
-ghost use Rattle.durable.specs.Marks.{isRecord, soundCounts, stampWithin, soundStamps, soundDirty, soundDirties, soundMarks};
+ghost use Rattle.durable.specs.Marks.{isRecord, soundCounts, numberWithin, soundStamps, dirtyFrom, soundDirties, soundMarks};
 use number::LogNo;
 use number::PageNo;
 
-// Every byte is zero. The loop looks at all of them: without a way out it is compiled to steps of many bytes.
+// Every byte is zero, as the greatest is. The loop has no way out and keeps a byte, so that it is compiled to steps of many bytes.
 pub fn all_zero(s: &[u8]) -> bool
     ensures { λ r. ⌜ r ≡ zeros (now (s .entry)) ⌝ }
 {
-    let mut ok = true;
+    let mut most = 0u8;
     let mut i = 0;
     while i < s.len() {
-        ok = ok & (s[i] == 0);
+        let b = s[i];
+        if most < b {
+            most = b;
+        }
         i += 1;
     }
-    ok
+    most == 0
 }
 
 // A length is 1, 2, 4 or 8.
@@ -143,15 +146,17 @@ fn counts(last: LogNo, closed: LogNo, n: u64, span: u64) -> bool
     last.0 - n + 1 <= closed.0 + 1
 }
 
-// Every stamp is at most L.
-fn page_stamps(marks: &[u8], pages: usize, last: LogNo) -> bool
-    requires { ⌜ 12 + 8 * pages ≤ length (now marks) ⌝ }
-    ensures { λ r. ⌜ r ≡ upTo (stampWithin (now (marks .entry)) (last .0)) pages 0 ⌝ }
+// The marks have two columns of a number for each page: in the one from `at` on, every number is at most `most`.
+// The numbers fit 32 bits. A loop that compares each once, as such, is compiled to steps of many.
+fn all_at_most(marks: &[u8], at: usize, pages: usize, most: LogNo) -> bool
+    requires { ⌜ (at + 4 * pages ≤ length (now marks)) × (most .0 < 4294967296) ⌝ }
+    ensures { λ r. ⌜ r ≡ upTo (numberWithin (now (marks .entry)) at (most .0)) pages 0 ⌝ }
 {
+    let limit = most.0 as u32;
     let mut ok = true;
     let mut p = 0;
     while p < pages {
-        ok = ok & (word::load(marks, 12 + 4 * p, 4) <= last.0);
+        ok = ok & (word::load(marks, at + 4 * p, 4) as u32 <= limit);
         p += 1;
     }
     ok
@@ -159,32 +164,35 @@ fn page_stamps(marks: &[u8], pages: usize, last: LogNo) -> bool
 
 // K and every stamp are at most L.
 fn stamps(marks: &[u8], pages: usize, last: LogNo, closed: LogNo) -> bool
-    requires { ⌜ 12 + 8 * pages ≤ length (now marks) ⌝ }
+    requires { ⌜ (12 + 8 * pages ≤ length (now marks)) × (last .0 < 4294967296) ⌝ }
     ensures { λ r. ⌜ r ≡ soundStamps (now (marks .entry)) pages (last .0) (closed .0) ⌝ }
 {
-    (closed.0 <= last.0) & page_stamps(marks, pages, last)
+    (closed.0 <= last.0) & all_at_most(marks, 12, pages, last)
 }
 
-// A dirty number is none, or from the log's first number to K.
-fn is_dirty_number(d: LogNo, first: LogNo, closed: LogNo) -> bool
-    ensures { λ r. ⌜ r ≡ soundDirty (first .0) (closed .0) (d .0) ⌝ }
+// S19: every dirty number is none, or from the log's first number on; `below` is the number before that.
+// One test serves both, since one less than none is the greatest number of all.
+fn none_before(marks: &[u8], pages: usize, below: LogNo) -> bool
+    requires { ⌜ (12 + 8 * pages ≤ length (now marks)) × (below .0 < 4294967296) ⌝ }
+    ensures { λ r. ⌜ r ≡ upTo (dirtyFrom (now (marks .entry)) pages (below .0 + 1)) pages 0 ⌝ }
 {
-    (d.0 == 0) | ((first.0 <= d.0) & (d.0 <= closed.0))
-}
-
-// Every page's dirty number is one.
-fn dirty_numbers(marks: &[u8], pages: usize, first: LogNo, closed: LogNo) -> bool
-    requires { ⌜ 12 + 8 * pages ≤ length (now marks) ⌝ }
-    ensures { λ r. ⌜ r ≡ soundDirties (now (marks .entry)) pages (first .0) (closed .0) ⌝ }
-{
+    let limit = below.0 as u32;
     let mut ok = true;
     let mut p = 0;
     while p < pages {
-        let d = LogNo(word::load(marks, 12 + 4 * pages + 4 * p, 4));
-        ok = ok & is_dirty_number(d, first, closed);
+        let d = word::load(marks, 12 + 4 * pages + 4 * p, 4) as u32;
+        ok = ok & (limit <= std::num::wrapping_sub_u32(d, 1));
         p += 1;
     }
     ok
+}
+
+// S17 and S19: a loop for each, since one that looks twice at a number takes them singly.
+fn dirty_numbers(marks: &[u8], pages: usize, below: LogNo, closed: LogNo) -> bool
+    requires { ⌜ (12 + 8 * pages ≤ length (now marks)) × (below .0 < 4294967296) × (closed .0 < 4294967296) ⌝ }
+    ensures { λ r. ⌜ r ≡ soundDirties (now (marks .entry)) pages (below .0 + 1) (closed .0) ⌝ }
+{
+    all_at_most(marks, 12 + 4 * pages, pages, closed) & none_before(marks, pages, below)
 }
 
 // A page size is 512, 1,024, 2,048 or 4,096.
@@ -276,8 +284,8 @@ fn sound_marks(marks: &[u8], log: &[u8], size: usize, pages: usize, span: u64) -
     if !stamps(marks, pages, last, closed) {
         return false;
     }
-    let first = LogNo(last.0 - n + 1);
-    if !dirty_numbers(marks, pages, first, closed) {
+    let below = LogNo(last.0 - n);
+    if !dirty_numbers(marks, pages, below, closed) {
         return false;
     }
     sound_log(log, n as usize, size, pages)

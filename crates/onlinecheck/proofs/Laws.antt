@@ -5,7 +5,7 @@ use native.Mathlib.Numerals.{add-one}
 use mathlib.Core.Path.{_≡_, refl, sym, ap, _∙_}
 use mathlib.Core.Bool.{Bool, true, false, cond, not, _&&_, _||_, and-true, and-false, and-assoc, or-true}
 use mathlib.Core.List.{List, [], _∷_}
-use lib.ListN.{length, getD, take, drop, drop-of-length-le}
+use lib.ListN.{length, getD, take, drop}
 use lib.Seq.{drop-cons, take-take}
 use lib.Dec.{eqb, leb, ltb}
 use borrow.Author.Tests.{leb-true, eqb-true, eqb-false, le-leb, lt-leb, eq-eqb, ne-eqb}
@@ -15,7 +15,7 @@ use Rattle.record.specs.Part.{part}
 use Rattle.record.specs.Rows.{rowAt, rows}
 use Rattle.record.specs.Record.{pageOf, offsetOf, lengthOf, ownerOf, numberOf, committed, bodyOf, wellFormed, shareByte}
 use Rattle.rules.specs.Lent.{Lent, sizeOf, pagesOf, framesOf, lastOf, loggedOf, countOf}
-use Rattle.rules.specs.Sound.{every, pairs, between, zeros, same, apart, owning, s7-online-records, s8-owners, s14-online-zero, s10-in-log, s11-above-stamp, s9-number-once, s12-dirty, s13-apart}
+use Rattle.rules.specs.Sound.{every, pairs, between, same, apart, owning, s7-online-records, s8-owners, s14-online-zero, s10-in-log, s11-above-stamp, s9-number-once, s12-dirty, s13-apart}
 use Rattle.onlinecheck.specs.Online.{owned, inLog, aboveStamp, rowTest, otherNumber, entryAgrees, pageBelow, onlineTest}
 use Rattle.onlinecheck.proofs.Rows.{every-both, every-imp}
 
@@ -56,15 +56,6 @@ owned-number tables last r h = pick (committed r) (numberOf r) (leb (ownerOf r) 
     pick false k y z h =
         let e : k ≡ 0 = eqb-true k 0 (and-both y (eqb k 0) (and-both (y && eqb k 0) z h .0) .1) in
         omega arith
-
--- S14
-pub zeros-turn : (t : List ℕ) (i : ℕ) (ok z : Bool) → i < length t → (ok && zeros (drop i t)) ≡ z → (ok && eqb (getD t i 0) 0 && zeros (drop (i + 1) t)) ≡ z
-unfolding zeros every
-zeros-turn t i ok z p inv = rw (add-one, and-assoc) (rw (drop-cons t i 0 p) at inv)
-
-pub zeros-done : (t : List ℕ) (i : ℕ) (ok z : Bool) → length t ≤ i → (ok && zeros (drop i t)) ≡ z → ok ≡ z
-unfolding zeros every
-zeros-done t i ok z p inv = rw (drop-of-length-le t p, and-true) at inv
 
 -- S10: equal words have equal bytes
 part-cons : (a n : ℕ) (t : List ℕ) → a < length t → part a (suc n) t ≡ getD t a 0 ∷ part (a + 1) n t

@@ -16,7 +16,6 @@ mod owned; // S8
 mod logged; // S10
 mod stamped; // S11
 mod each; // S7, S8, S10, S11
-mod tail; // S14
 mod once; // S9
 mod dirty; // S12
 mod few; // S13, few rows
@@ -40,7 +39,9 @@ fn sound_rows(
     if !each::all_sound(online, m, log, n, marks, tables, size, pages, last) {
         return false;
     }
-    tail::zero_from(online, m * 19)
+    // S14
+    let end = m * 19;
+    durable::all_zero(&online[end..])
 }
 
 // The rows with the entries and one another.

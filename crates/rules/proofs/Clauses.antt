@@ -17,12 +17,12 @@ across true false true v = refl
 across true false false v = refl
 across false y u v = refl
 
-upTo-same : (c d : ℕ → Bool) → ((p : ℕ) → c p ≡ d p) → (n i : ℕ) → upTo c n i ≡ upTo d n i
+pub upTo-same : (c d : ℕ → Bool) → ((p : ℕ) → c p ≡ d p) → (n i : ℕ) → upTo c n i ≡ upTo d n i
 unfolding upTo
 upTo-same c d h zero i = refl
 upTo-same c d h (suc n) i = λ j. h i j && upTo-same c d h n (i + 1) j
 
-upTo-both : (a b : ℕ → Bool) (n i : ℕ) → upTo (λ (p : ℕ). a p && b p) n i ≡ (upTo a n i && upTo b n i)
+pub upTo-both : (a b : ℕ → Bool) (n i : ℕ) → upTo (λ (p : ℕ). a p && b p) n i ≡ (upTo a n i && upTo b n i)
 unfolding upTo
 upTo-both a b zero i = refl
 upTo-both a b (suc n) i = ap (λ (t : Bool). (a i && b i) && t) (upTo-both a b n (i + 1)) ∙ across (a i) (b i) (upTo a n (i + 1)) (upTo b n (i + 1))

@@ -39,9 +39,6 @@ returns-2 c =
 sub-t10 : tie.Need-sub-t10
 sub-t10 c = counts-hold _ _ _ (c .before .before .before .before .before .before .before .before .before .before .args .span) (c .before .before .before .before .counts .ensures) (c .before .before .before .if1 .left) .1
 
-add-t13 : tie.Need-add-t13
-add-t13 c = search needs
-
 dirty-numbers-requires : tie.Need-dirty-numbers-requires
 dirty-numbers-requires c κs = search needs
 
@@ -79,7 +76,6 @@ sound-marks-spec =
     stamps-requires
     returns-2
     sub-t10
-    add-t13
     dirty-numbers-requires
     returns-3
     sound-log-requires
