@@ -2,17 +2,17 @@
 use Prim.Native.Nat.{ℕ, zero, suc, _+_, _*_, _-_, _/_, _%_, _^_, _≤_, _<_}
 use native.Mathlib.Omega.{arith}
 use native.Mathlib.Numerals.{add-one}
-use native.Mathlib.Nat.{mul-le-mul, div-eq-of-lt, div-lt-iff-lt-mul}
-use mathlib.Core.Path.{_≡_, refl, sym, ap, subst, _∙_}
+use native.Mathlib.Nat.{mul-le-mul}
+use mathlib.Core.Path.{_≡_, refl, sym, ap, _∙_}
 use mathlib.Core.Bool.{Bool, true, false, cond, not, _&&_, _||_, and-true, and-false, and-comm, and-assoc}
 use mathlib.Core.List.{List}
 use lib.ListN.{length, getD, take, drop, length-drop, drop-of-length-le}
 use lib.Seq.{drop-cons, take-all}
-use lib.Pow.{pow-pos, shr-shr}
-use lib.Dec.{eqb, leb, ltb, lit<, leb·suc-suc}
+use lib.Dec.{eqb, leb, ltb, leb·suc-suc}
 use borrow.Author.Tests.{eqb-true, eqb-false, leb-true, eq-eqb, ne-eqb, le-leb, lt-leb, lt-ltb, le-ltb, ltb-true, ltb-false, not-true, not-false}
-use Rattle.word.proofs.Tests.{and-both}
+use Rattle.word.proofs.Tests.{and-both, among-four}
 use Rattle.record.specs.Rows.{rowAt, rows}
+use Rattle.record.proofs.Laws.{at-length}
 use Rattle.record.specs.Record.{pageOf, offsetOf, lengthOf, kindOf, valueOf, isLength, wellFormed}
 use Rattle.word.specs.Word.{num}
 use Rattle.rules.specs.Lent.{Lent, sizeOf, pagesOf, framesOf, roomOf, spanOf, lastOf, loggedOf, logOf, dirtyAt}
@@ -116,36 +116,6 @@ zeros-done l i a x p inv = sym (and-true (eqb a 0)) ∙ (rw (drop-of-length-le l
 -- what is lent of a list from a place on
 pub rest-lent : (l : List ℕ) (a : ℕ) → take (length l - a) (drop a l) ≡ drop a l
 rest-lent l a = take-all (length l - a) (drop a l) (rw (length-drop a l) (omega arith))
-
--- what holds of 1, 2, 4 and 8 holds of a length
-length-cases : (P : ℕ → Type 0) (w : ℕ) (a b c d : Bool) → eqb w 1 ≡ a → eqb w 2 ≡ b → eqb w 4 ≡ c → eqb w 8 ≡ d → (a || b || c || d) ≡ true → P 1 → P 2 → P 4 → P 8 → P w
-length-cases P w true b c d ea eb ec ed h one two four eight = subst P (sym (eqb-true w 1 ea)) one
-length-cases P w false true c d ea eb ec ed h one two four eight = subst P (sym (eqb-true w 2 eb)) two
-length-cases P w false false true d ea eb ec ed h one two four eight = subst P (sym (eqb-true w 4 ec)) four
-length-cases P w false false false true ea eb ec ed h one two four eight = subst P (sym (eqb-true w 8 ed)) eight
-length-cases P w false false false false ea eb ec ed h one two four eight = let z : _≡_ {A = ℕ} 0 1 = cc in absurd (omega arith)
-
-at-length : (P : ℕ → Type 0) (w : ℕ) → isLength w ≡ true → P 1 → P 2 → P 4 → P 8 → P w
-unfolding isLength
-at-length P w h = length-cases P w _ _ _ _ refl refl refl refl h
-
-pub length-small : (w : ℕ) → isLength w ≡ true → w < 256
-length-small w h = at-length (λ (x : ℕ). x < 256) w h (lit< tt) (lit< tt) (lit< tt) (lit< tt)
-
--- `value_fits`: no bit from 8 w on
-quotient-zero : (v m : ℕ) → 0 < m → eqb (v / m) 0 ≡ ltb v m
-quotient-zero v m p = pick (ltb v m) refl
-  where
-    pick : (b : Bool) → ltb v m ≡ b → eqb (v / m) 0 ≡ b
-    pick true h = eq-eqb (v / m) 0 (div-eq-of-lt (ltb-true v m h))
-    pick false h = ne-eqb (v / m) 0 λ e. let f : v < 1 * m = div-lt-iff-lt-mul {k = m} {x = v} {y = 1} p .0 (omega arith) in omega (arith, ltb-false v m h)
-
-shift-zero : (v k : ℕ) → eqb (v / 2 ^ k / 2 ^ 1) 0 ≡ ltb v (2 ^ (k + 1))
-shift-zero v k = ap (λ (x : ℕ). eqb x 0) (shr-shr v k 1) ∙ quotient-zero v (2 ^ (k + 1)) (pow-pos (k + 1))
-
-pub power-test : (w v : ℕ) → isLength w ≡ true → eqb (v / 2 ^ ((8 * w + 63) % 64) / 2 ^ 1) 0 ≡ ltb v (256 ^ w)
-power-test w v h =
-    at-length (λ (x : ℕ). eqb (v / 2 ^ ((8 * x + 63) % 64) / 2 ^ 1) 0 ≡ ltb v (256 ^ x)) w h (shift-zero v 7) (shift-zero v 15) (shift-zero v 31) (shift-zero v 63)
 
 -- the tables by length: at a length the places of a change and the greatest value, at another number up to 8 no place
 places-at : (size w : ℕ) → w ≤ 8 → getD (placesOf size) w 0 ≡ cond (isLength w) (size + 1 - w) 0
@@ -300,13 +270,6 @@ module _ (marks log : List ℕ) (size pages span last closed n : ℕ) (el : last
       marks-log j k = rw (← el, ← ek, ← en, passed counted h, passed stamped i, passed dirtied j) k
 
 -- the ranges as bounds
-size-bounds : (n : ℕ) (a b c d : Bool) → eqb n 512 ≡ a → eqb n 1024 ≡ b → eqb n 2048 ≡ c → eqb n 4096 ≡ d → (a || b || c || d) ≡ true → (512 ≤ n) × (n ≤ 4096)
-size-bounds n true b c d ea eb ec ed h = let e : n ≡ 512 = eqb-true n 512 ea in (omega arith, omega arith)
-size-bounds n false true c d ea eb ec ed h = let e : n ≡ 1024 = eqb-true n 1024 eb in (omega arith, omega arith)
-size-bounds n false false true d ea eb ec ed h = let e : n ≡ 2048 = eqb-true n 2048 ec in (omega arith, omega arith)
-size-bounds n false false false true ea eb ec ed h = let e : n ≡ 4096 = eqb-true n 4096 ed in (omega arith, omega arith)
-size-bounds n false false false false ea eb ec ed h = let z : _≡_ {A = ℕ} 0 1 = cc in absurd (omega arith)
-
 between-bounds : (low n high : ℕ) → between low n high ≡ true → (low ≤ n) × (n ≤ high)
 between-bounds low n high h =
     let e = and-both (leb low n) (leb n high) h in
@@ -316,7 +279,7 @@ pub ranged : (size pages frames room span : ℕ) → inRange size pages frames r
 unfolding inRange isPageSize
 ranged size pages frames room span h =
     let e = and-five (isPageSize size) (between 1 pages 1024) (between 1 frames 64) (between 1 room 512) (between 1 span 2048) h in
-    let s = size-bounds size _ _ _ _ refl refl refl refl (e .0) in
+    let s = among-four (λ (n : ℕ). (512 ≤ n) × (n ≤ 4096)) size 512 1024 2048 4096 (e .0) (omega arith, omega arith) (omega arith, omega arith) (omega arith, omega arith) (omega arith, omega arith) in
     let p = between-bounds 1 pages 1024 (e .1) in
     let f = between-bounds 1 frames 64 (e .2) in
     let o = between-bounds 1 room 512 (e .3) in

@@ -32,22 +32,6 @@ pub fn all_zero(s: &[u8]) -> bool
     most == 0
 }
 
-// A length is 1, 2, 4 or 8.
-pub fn is_length(w: usize) -> bool
-    ensures { λ r. ⌜ r ≡ isLength w ⌝ }
-{
-    (w == 1) | (w == 2) | (w == 4) | (w == 8)
-}
-
-// A value is below 256 to the power of its length: its bits from 8 w on are zero, shifted twice since 64 at once is too far.
-pub fn value_fits(w: usize, v: u64) -> bool
-    requires { ⌜ isLength w ≡ true ⌝ }
-    ensures { λ r. ⌜ r ≡ ltb v (256 ^ w) ⌝ }
-{
-    let most = (8 * w + 63) % 64;
-    (v >> most) >> 1 == 0
-}
-
 // How many offsets a change has on a page, by its length; none where that is no length.
 pub fn places_of(size: usize) -> [usize; 9]
     requires { ⌜ 8 ≤ size ⌝ }

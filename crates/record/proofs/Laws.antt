@@ -3,7 +3,7 @@ use Prim.Native.Nat.{ℕ, zero, suc, _+_, _-_, _≤_, _<_}
 use native.Mathlib.Omega.{arith}
 use native.Mathlib.Nat.{min-eq-left, min-eq-right}
 use mathlib.Core.Path.{_≡_, refl, sym, ap, _∙_}
-use mathlib.Core.Bool.{Bool, true, false, cond, _||_}
+use mathlib.Core.Bool.{Bool, true, false, cond}
 use mathlib.Core.List.{List, _++_, append-nil}
 use lib.ListN.{length, getD, drop, set, replicate}
 use lib.Seq.{getD-take, getD-drop, getD-set-same, drop-length}
@@ -11,6 +11,7 @@ use lib.Dec.{eqb}
 use borrow.Author.Tests.{eq-eqb, ne-eqb, eqb-true}
 use borrow.Author.Fill.{fill-more}
 use Rattle.word.specs.Word.{num}
+use Rattle.word.proofs.Tests.{among-four}
 use Rattle.word.proofs.Puts.{getD-put-below}
 use Rattle.record.specs.Part.{part}
 use Rattle.record.specs.Record.{ownerOf, numbered, lesser, isLength}
@@ -76,13 +77,9 @@ unfolding numbered
 numbered-owner r k h = getD-put-below 4 (set r 14 0) 15 k 14 (omega arith) ∙ getD-set-same r 14 0 0 (omega arith)
 
 -- "length (1, 2, 4 or 8)"
-or-four : (a b c d : Bool) (n : ℕ) → (a ≡ true → n ≤ 8) → (b ≡ true → n ≤ 8) → (c ≡ true → n ≤ 8) → (d ≡ true → n ≤ 8) → (a || b || c || d) ≡ true → n ≤ 8
-or-four true b c d n f g h k e = f refl
-or-four false true c d n f g h k e = g refl
-or-four false false true d n f g h k e = h refl
-or-four false false false d n f g h k e = k e
+pub at-length : (P : ℕ → Type 0) (w : ℕ) → isLength w ≡ true → P 1 → P 2 → P 4 → P 8 → P w
+unfolding isLength
+at-length P w h = among-four P w 1 2 4 8 h
 
 pub length-most : (w : ℕ) → isLength w ≡ true → w ≤ 8
-unfolding isLength
-length-most w e =
-    or-four (eqb w 1) (eqb w 2) (eqb w 4) (eqb w 8) w (λ h. omega (arith, eqb-true w 1 h)) (λ h. omega (arith, eqb-true w 2 h)) (λ h. omega (arith, eqb-true w 4 h)) (λ h. omega (arith, eqb-true w 8 h)) e
+length-most w h = at-length (λ (x : ℕ). x ≤ 8) w h (omega arith) (omega arith) (omega arith) (omega arith)

@@ -1,9 +1,10 @@
 -- Laws of tests joined in a row, and of a call that answers a test.
 use Prim.Native.Nat.{ℕ}
 use native.Mathlib.Omega.{arith}
-use mathlib.Core.Path.{_≡_, refl, sym, _∙_}
-use mathlib.Core.Bool.{Bool, true, false, not, _&&_}
-use borrow.Author.Tests.{not-true, not-false}
+use mathlib.Core.Path.{_≡_, refl, sym, subst, _∙_}
+use mathlib.Core.Bool.{Bool, true, false, not, _&&_, _||_}
+use lib.Dec.{eqb}
+use borrow.Author.Tests.{eqb-true, not-true, not-false}
 
 -- two tests, both of which hold
 pub and-both : (a b : Bool) → (a && b) ≡ true → (a ≡ true) × (b ≡ true)
@@ -12,6 +13,17 @@ and-both false b h = let z : _≡_ {A = ℕ} 0 1 = cc in absurd (omega arith)
 
 pub and-in : (a b : Bool) → a ≡ true → b ≡ true → (a && b) ≡ true
 and-in a b h k = rw (h, k)
+
+-- what holds of four numbers holds of one that is among them
+pub among-four : (P : ℕ → Type 0) (n a b c d : ℕ) → (eqb n a || eqb n b || eqb n c || eqb n d) ≡ true → P a → P b → P c → P d → P n
+among-four P n a b c d h one two three four = pick (eqb n a) (eqb n b) (eqb n c) (eqb n d) refl refl refl refl h
+  where
+    pick : (w x y z : Bool) → eqb n a ≡ w → eqb n b ≡ x → eqb n c ≡ y → eqb n d ≡ z → (w || x || y || z) ≡ true → P n
+    pick true x y z e f g k t = subst P (sym (eqb-true n a e)) one
+    pick false true y z e f g k t = subst P (sym (eqb-true n b f)) two
+    pick false false true z e f g k t = subst P (sym (eqb-true n c g)) three
+    pick false false false true e f g k t = subst P (sym (eqb-true n d k)) four
+    pick false false false false e f g k t = let u : _≡_ {A = ℕ} 0 1 = cc in absurd (omega arith)
 
 -- a test's value from the call that asked it
 pub so : (a b : Bool) → a ≡ b → not a ≡ false → b ≡ true
