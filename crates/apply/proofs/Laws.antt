@@ -118,7 +118,7 @@ chosen-only only r p q owner h a b = rw (h, a, b)
 pub chosen-all : (only : Bool) (r : List ℕ) (p q : ℕ) → only ≡ false → q ≡ pageOf r → eqb q p ≡ chosen only p r
 chosen-all only r p q h a = rw (h, a)
 
--- `fold`: a turn, none and the end
+-- `fold`: a turn, the end, and from the first row on
 pub fold-turn : (b : List ℕ → Bool) (t : List ℕ) (m i : ℕ) (g g′ h : List ℕ) → i < m → g′ ≡ cond (b (rowAt 19 t i)) (apply (rowAt 19 t i) g) g → applied (keep b (rows 19 (m - i) t i)) g ≡ h → applied (keep b (rows 19 (m - (i + 1)) t (i + 1))) g′ ≡ h
 unfolding rows
 fold-turn b t m i g g′ h p e inv =
@@ -127,11 +127,11 @@ fold-turn b t m i g g′ h p e inv =
     ∙ sym (applied-keep b (rowAt 19 t i) (rows 19 (m - (i + 1)) t (i + 1)) g)
     ∙ (rw n at inv)
 
-pub fold-none : (b : List ℕ → Bool) (t : List ℕ) (m : ℕ) (g : List ℕ) → applied (keep b (rows 19 (m - 0) t 0)) g ≡ applied (keep b (rows 19 m t 0)) g
-fold-none b t m g = let n : m - 0 ≡ m = omega arith in rw n
-
 pub fold-done : (b : List ℕ → Bool) (t : List ℕ) (m i : ℕ) (g h : List ℕ) → m ≤ i → applied (keep b (rows 19 (m - i) t i)) g ≡ h → g ≡ h
 unfolding rows keep applied
 fold-done b t m i g h p inv =
     let n : m - i ≡ 0 = omega arith in
     rw n at inv
+
+pub fold-all : (b : List ℕ → Bool) (t : List ℕ) (m : ℕ) (g : List ℕ) → applied (keep b (rows 19 (m - 0) t 0)) g ≡ applied (keep b (rows 19 m t 0)) g
+fold-all b t m g = let n : m - 0 ≡ m = omega arith in rw n

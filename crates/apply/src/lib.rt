@@ -2,7 +2,7 @@
 // Any page is taken: a change that does not fit it leaves it as it is. Only the table's rows have to lie within the table.
 ghost use mathlib.Core.Path.{_≡_};
 ghost use mathlib.Core.Bool.{cond, _&&_};
-ghost use Prim.Native.Nat.{_+_, _*_, _%_, _^_, _≤_};
+ghost use Prim.Native.Nat.{_+_, _*_, _-_, _%_, _^_, _≤_};
 ghost use lib.ListN.{length};
 ghost use lib.Dec.{eqb, leb};
 ghost use Rattle.record.specs.Rows.{rowAt, rows, keep};
@@ -80,12 +80,12 @@ fn fold_one(t: &[u8], i: usize, p: PageNo, only: bool, g: &mut [u8])
     apply_row(t, 19, i, g);
 }
 
-// The page g with the chosen ones of the first m online rows applied in table order.
-pub fn fold(t: &[u8], m: usize, p: PageNo, only: bool, g: &mut [u8])
+// The page g with the chosen ones of the online rows from `from` up to m applied in table order.
+pub fn fold(t: &[u8], from: usize, m: usize, p: PageNo, only: bool, g: &mut [u8])
     requires { ⌜ m * 19 ≤ length (now t) ⌝ }
-    ensures { λ r. ⌜ now (g .exit) ≡ applied (keep (chosen only (p .0)) (rows 19 m (now (t .entry)) 0)) (now (g .entry)) ⌝ }
+    ensures { λ r. ⌜ now (g .exit) ≡ applied (keep (chosen only (p .0)) (rows 19 (m - from) (now (t .entry)) from)) (now (g .entry)) ⌝ }
 {
-    let mut i = 0;
+    let mut i = from;
     while i < m {
         fold_one(t, i, p, only, g);
         i += 1;

@@ -13,6 +13,7 @@ use Rattle.record.specs.Rows.{rows, keep, table}
 use Rattle.record.specs.Record.{onPage, committedOn, applied, gone, smallest, greatest}
 use Rattle.record.proofs.Parts.{one-fits}
 use Rattle.rules.proofs.Tables.{entry-below}
+use Rattle.table.specs.Before.{NoneBefore}
 use Rattle.table.specs.Seen.{Surveyed}
 use Rattle.table.specs.declared.page.Survey.{Survey}
 use Rattle.order.specs.Order.{without}
@@ -76,11 +77,11 @@ page-copied l ys pool x a b size framed h e =
     let d′ : b + size - b ≡ size = omega arith in
     rw (h, e, d, d′)
 
-pub page-folded : (l ys x : List ℕ) (rs : List (List ℕ)) (a size : ℕ) (framed : Bool) → framed ≡ false → ys ≡ applied rs (take (a + size - a) (drop a l))
-    → withPart a (a + size - a) l ys ≡ withPart a size l (cond framed x (applied rs (part a size l)))
-page-folded l ys x rs a size framed h e =
+pub page-folded : (l ys x : List ℕ) (rs all : List (List ℕ)) (a size : ℕ) (framed : Bool) → framed ≡ false → rs ≡ all → ys ≡ applied rs (take (a + size - a) (drop a l))
+    → withPart a (a + size - a) l ys ≡ withPart a size l (cond framed x (applied all (part a size l)))
+page-folded l ys x rs all a size framed h k e =
     let d : a + size - a ≡ size = omega arith in
-    rw (h, e, d)
+    rw (h, ← k, e, d)
 
 -- `freed_order`
 pub order-freed : (frees : Bool) (o q x : List ℕ) → frees ≡ true → q ≡ o → q ≡ cond frees o x
@@ -167,17 +168,19 @@ module _ (fixed marks log stored tables online pool : List ℕ) (p : ℕ) (z : S
       f = em ∙ ap (λ (x : ℕ). put 4 marks (12 + 4 * p) x) (meant .stamp)
 
   -- what the inner functions ask
-  pub page-there : Shaped lent → p < pagesOf lent → (p * z .size + z .size ≤ length stored) × (r .frame * z .size + z .size ≤ length pool) × (z .count * 19 ≤ length online)
-  page-there w h =
+  pub page-there : (v : Survey) → Surveyed p (num 2 tables 0) online v → Shaped lent → p < pagesOf lent → (p * z .size + z .size ≤ length stored) × (r .frame * z .size + z .size ≤ length pool) × (z .count * 19 ≤ length online) × (v .from ≤ z .count) × NoneBefore (committedOn p) online (v .from)
+  page-there v u w h =
       let y = w .sized in
       let f : r .frame < framesOf lent = omega (arith, entry-below lent p w h, meant .frame) in (
         rw (m .size) (one-fits p (pagesOf lent) (sizeOf lent) (length stored) h (y .stored)),
         rw (m .size) (one-fits (r .frame) (framesOf lent) (sizeOf lent) (length pool) f (y .pool)),
         rw (m .count) (omega (arith, w .count, y .online)),
+        rw (m .count) (u .within),
+        u .from,
       )
 
-  pub tables-there : Shaped lent → p < pagesOf lent → (entryAt (z .frames) p < length tables) × (getD tables 2 0 ≤ z .frames) × (z .frames ≤ 64) × (length online ≡ z .room * 19) × (z .count ≤ z .room)
-  tables-there w h = let y = w .sized in rw (m .frames, m .room, m .count) (omega arith, w .used, y .frames, omega arith, w .count)
+  pub tables-there : (v : Survey) → Surveyed p (num 2 tables 0) online v → Shaped lent → p < pagesOf lent → (entryAt (z .frames) p < length tables) × (getD tables 2 0 ≤ z .frames) × (z .frames ≤ 64) × (length online ≡ z .room * 19) × (z .count ≤ z .room) × (v .from ≤ z .count) × NoneBefore (committedOn p) online (v .from)
+  tables-there v u w h = let y = w .sized in rw (m .frames, m .room, m .count) (omega arith, w .used, y .frames, omega arith, w .count, u .within, u .from)
 
 -- one page is written
 pub writes-done : (s : Lent) (p : ℕ) → 1 ≡ compacted s p .writes

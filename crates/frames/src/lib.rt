@@ -46,7 +46,7 @@ pub fn rebuild(
     if !evicted {
         return;
     }
-    apply::fold(online, m, p, false, g);
+    apply::fold(online, 0, m, p, false, g);
 }
 
 // An entry after frame f was freed: clean becomes absent, dirty becomes evicted.

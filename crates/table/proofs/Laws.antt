@@ -1,6 +1,7 @@
 -- Laws of rows: a turn of a loop over them, rows as bytes, tables in canonical form.
 use Prim.Native.Nat.{ℕ, zero, suc, _+_, _*_, _-_, _≤_, _<_}
 use native.Mathlib.Omega.{arith}
+use native.Mathlib.Numerals.{add-one}
 use native.Mathlib.Nat.{suc-mul, zero-mul, add-mul, one-mul, mul-comm, mul-sub, add-comm}
 use mathlib.Core.Path.{_≡_, refl, sym, ap, _∙_}
 use mathlib.Core.Bool.{Bool, true, false, cond}
@@ -12,6 +13,7 @@ use Rattle.record.specs.Rows.{rowAt, rows, joined, table, consIf, keep}
 use Rattle.record.specs.Record.{bodyOf, ownedBy, rowOf, entered, numbered, numberRows}
 use Rattle.word.specs.Word.{put}
 use Rattle.word.proofs.Laws.{length-put}
+use Rattle.table.specs.Before.{NoneBefore, start, pass}
 
 module _ {A : Type 0} where
   pub keep-nil : (b : A → Bool) → keep b [] ≡ []
@@ -70,6 +72,14 @@ module _ (F : List (List ℕ) → List ℕ → List ℕ) (g : List ℕ → List 
 
   pub each-end : (i : ℕ) (x z : List ℕ) → m ≤ i → F (keep b (rows 19 (m - i) l i)) x ≡ z → x ≡ z
   each-end i x z h p = sym (none x) ∙ ap (λ (y : List (List ℕ)). F y x) (sym (keep-rows-end b 19 m l i h)) ∙ p
+
+-- those kept of all rows stand from row a on, if none does before it
+pub keep-rows-from : (b : List ℕ → Bool) (m : ℕ) (t : List ℕ) {a : ℕ} → NoneBefore b t a → a ≤ m → keep b (rows 19 (m - a) t a) ≡ keep b (rows 19 m t 0)
+keep-rows-from b m t start h = ap (λ (l : List (List ℕ)). keep b l) (rows-start 19 m t)
+keep-rows-from b m t (pass {a} k e) h =
+    ap (λ (i : ℕ). keep b (rows 19 (m - i) t i)) (sym (add-one a))
+    ∙ sym (keep-rows-more b 19 m t a (omega arith) ∙ ap (λ (z : Bool). consIf z (rowAt 19 t a) (keep b (rows 19 (m - (a + 1)) t (a + 1)))) e)
+    ∙ keep-rows-from b m t k (omega arith)
 
 -- a count of the kept rows
 pub count-start : (b : List ℕ → Bool) (w m : ℕ) (t : List ℕ) (n : ℕ) → n + length (keep b (rows w (m - 0) t 0)) ≡ n + length (keep b (rows w m t 0))

@@ -1,14 +1,16 @@
 -- Laws of a survey: one row more, and the turns of the loop over rows.
-use Prim.Native.Nat.{ℕ, _+_, _-_, _≤_, _<_, max}
+use Prim.Native.Nat.{ℕ, suc, _+_, _-_, _≤_, _<_, min, max}
 use native.Mathlib.Omega.{arith}
 use mathlib.Core.Path.{_≡_, refl, sym, ap, _∙_}
-use mathlib.Core.Bool.{Bool, true, false, _&&_}
+use mathlib.Core.Bool.{Bool, true, false, cond, _&&_}
 use mathlib.Core.List.{List, [], _∷_}
 use lib.ListN.{length}
-use lib.Dec.{eqb}
+use lib.Dec.{eqb, leb}
+use borrow.Author.Tests.{leb-true, leb-false}
 use Rattle.record.specs.Rows.{rowAt, rows, consIf, keep}
 use Rattle.record.specs.Record.{pageOf, ownerOf, numberOf, committed, onPage, committedOn, lesser, smallest, greatest}
 use Rattle.table.specs.declared.page.Survey.{Survey}
+use Rattle.table.specs.Before.{NoneBefore, start, pass}
 use Rattle.table.specs.Seen.{Seen, Surveyed}
 use Rattle.table.proofs.Laws.{keep-rows-more, keep-rows-end, rows-start, count-start, count-end}
 
@@ -16,35 +18,36 @@ keep-one : (b : List ℕ → Bool) (x : List ℕ) (z : Bool) → b x ≡ z → k
 unfolding keep
 keep-one b x z e = ap (λ (w : Bool). consIf w x []) e
 
-seen-by : (s r : Survey) (p : ℕ) (x : List ℕ) (u v : Bool) → onPage p x ≡ u → committedOn p x ≡ v
+seen-by : (s r : Survey) (p i : ℕ) (x : List ℕ) (u v : Bool) → onPage p x ≡ u → committedOn p x ≡ v
     → r .all ≡ s .all + length (consIf u x []) → r .committed ≡ s .committed + length (consIf v x [])
-    → r .least ≡ smallest (s .least) (consIf v x []) → r .most ≡ greatest (s .most) (consIf v x []) → Seen s p x r
-seen-by s r p x u v ue ve ae ce le me =
+    → r .least ≡ smallest (s .least) (consIf v x []) → r .most ≡ greatest (s .most) (consIf v x []) → r .from ≡ cond v (min (s .from) i) (s .from) → Seen s p i x r
+seen-by s r p i x u v ue ve ae ce le me fe =
     record {
       all = ae ∙ ap (λ (l : List (List ℕ)). s .all + length l) (sym (keep-one (onPage p) x u ue));
       committed = ce ∙ ap (λ (l : List (List ℕ)). s .committed + length l) (sym (keep-one (committedOn p) x v ve));
       least = le ∙ ap (λ (l : List (List ℕ)). smallest (s .least) l) (sym (keep-one (committedOn p) x v ve));
       most = me ∙ ap (λ (l : List (List ℕ)). greatest (s .most) l) (sym (keep-one (committedOn p) x v ve));
+      from = fe ∙ ap (λ (z : Bool). cond z (min (s .from) i) (s .from)) (sym ve);
     }
 
 -- a row of another page
-pub seen-other : (s : Survey) (p : ℕ) (x : List ℕ) → eqb (pageOf x) p ≡ false → Seen s p x s
+pub seen-other : (s : Survey) (p i : ℕ) (x : List ℕ) → eqb (pageOf x) p ≡ false → Seen s p i x s
 unfolding smallest greatest
-seen-other s p x e = seen-by s s p x false false e (ap (λ (z : Bool). z && committed x) e) (omega arith) (omega arith) refl refl
+seen-other s p i x e = seen-by s s p i x false false e (ap (λ (z : Bool). z && committed x) e) (omega arith) (omega arith) refl refl refl
 
 -- a row of the page that is not committed
-pub seen-open : (s r : Survey) (p : ℕ) (x : List ℕ) → eqb (pageOf x) p ≡ true → eqb (ownerOf x) 0 ≡ false
-    → r .all ≡ s .all + 1 → r .committed ≡ s .committed → r .least ≡ s .least → r .most ≡ s .most → Seen s p x r
+pub seen-open : (s r : Survey) (p i : ℕ) (x : List ℕ) → eqb (pageOf x) p ≡ true → eqb (ownerOf x) 0 ≡ false
+    → r .all ≡ s .all + 1 → r .committed ≡ s .committed → r .least ≡ s .least → r .most ≡ s .most → r .from ≡ s .from → Seen s p i x r
 unfolding smallest greatest
-seen-open s r p x e f ae ce le me =
-    seen-by s r p x true false e (ap (λ (z : Bool). z && committed x) e ∙ f) (omega arith) (omega arith) le me
+seen-open s r p i x e f ae ce le me fe =
+    seen-by s r p i x true false e (ap (λ (z : Bool). z && committed x) e ∙ f) (omega arith) (omega arith) le me fe
 
 -- a committed row of the page
-pub seen-committed : (s r : Survey) (p : ℕ) (x : List ℕ) → eqb (pageOf x) p ≡ true → eqb (ownerOf x) 0 ≡ true
-    → r .all ≡ s .all + 1 → r .committed ≡ s .committed + 1 → r .least ≡ lesser (s .least) (numberOf x) → r .most ≡ max (s .most) (numberOf x) → Seen s p x r
+pub seen-committed : (s r : Survey) (p i : ℕ) (x : List ℕ) → eqb (pageOf x) p ≡ true → eqb (ownerOf x) 0 ≡ true
+    → r .all ≡ s .all + 1 → r .committed ≡ s .committed + 1 → r .least ≡ lesser (s .least) (numberOf x) → r .most ≡ max (s .most) (numberOf x) → r .from ≡ min (s .from) i → Seen s p i x r
 unfolding smallest greatest
-seen-committed s r p x e f ae ce le me =
-    seen-by s r p x true true e (ap (λ (z : Bool). z && committed x) e ∙ f) (omega arith) (omega arith) le me
+seen-committed s r p i x e f ae ce le me fe =
+    seen-by s r p i x true true e (ap (λ (z : Bool). z && committed x) e ∙ f) (omega arith) (omega arith) le me fe
 
 -- the rows up to i are in the survey
 pub record Surveying (p m : ℕ) (t : List ℕ) (s : Survey) (i : ℕ) : Type 0 where
@@ -55,9 +58,12 @@ pub record Surveying (p m : ℕ) (t : List ℕ) (s : Survey) (i : ℕ) : Type 0 
   pub most : greatest (s .most) (keep (committedOn p) (rows 19 (m - i) t i)) ≡ greatest 0 (keep (committedOn p) (rows 19 m t 0))
   pub fewer : s .committed ≤ s .all
   pub below : s .all ≤ i
+  pub clear : NoneBefore (committedOn p) t (min i (s .from))
+  pub start : s .from ≤ m
 
-pub survey-none : (p m : ℕ) (t : List ℕ) (s : Survey) → s .all ≡ 0 → s .committed ≡ 0 → s .least ≡ 0 → s .most ≡ 0 → Surveying p m t s 0
-survey-none p m t s ae ce le me =
+pub survey-none : (p m : ℕ) (t : List ℕ) (s : Survey) → s .all ≡ 0 → s .committed ≡ 0 → s .least ≡ 0 → s .most ≡ 0 → s .from ≡ m → Surveying p m t s 0
+survey-none p m t s ae ce le me fe =
+    let z : min 0 (s .from) ≡ 0 = omega arith in
     record {
       within = omega arith;
       all = ap (λ (n : ℕ). n + length (keep (onPage p) (rows 19 (m - 0) t 0))) ae ∙ count-start (onPage p) 19 m t 0;
@@ -66,6 +72,8 @@ survey-none p m t s ae ce le me =
       most = ap (λ (n : ℕ). greatest n (keep (committedOn p) (rows 19 (m - 0) t 0))) me ∙ ap (λ (l : List (List ℕ)). greatest 0 (keep (committedOn p) l)) (rows-start 19 m t);
       fewer = omega arith;
       below = omega arith;
+      clear = rw z start;
+      start = omega arith;
     }
 
 -- a row in front, and those after it
@@ -92,6 +100,25 @@ one-at-most : (u : Bool) (x : List ℕ) → length (consIf u x []) ≤ 1
 one-at-most true x = omega arith
 one-at-most false x = omega arith
 
+-- no row that passes stands before the first that does, and none before row i while none is found
+before-more : (b : List ℕ → Bool) (t : List ℕ) (i f g : ℕ) → NoneBefore b t (min i f) → g ≡ cond (b (rowAt 19 t i)) (min f i) f → NoneBefore b t (min (i + 1) g)
+before-more b t i f g h = pick (b (rowAt 19 t i)) refl
+  where
+    place : (z : Bool) → leb f i ≡ z → b (rowAt 19 t i) ≡ false → g ≡ f → NoneBefore b t (min (i + 1) g)
+    place true l e q = let n : min (i + 1) g ≡ min i f = omega (arith, leb-true f i l) in rw n h
+    place false l e q =
+        let n : min (i + 1) g ≡ suc i = omega (arith, leb-false f i l) in
+        let o : min i f ≡ i = omega (arith, leb-false f i l) in
+        rw n (pass (rw o at h) e)
+
+    pick : (z : Bool) → b (rowAt 19 t i) ≡ z → g ≡ cond z (min f i) f → NoneBefore b t (min (i + 1) g)
+    pick true e q = let n : min (i + 1) g ≡ min i f = omega arith in rw n h
+    pick false e q = place (leb f i) refl e q
+
+earlier-le : (z : Bool) (f i g m : ℕ) → g ≡ cond z (min f i) f → f ≤ m → g ≤ m
+earlier-le true f i g m e h = omega arith
+earlier-le false f i g m e h = omega arith
+
 module _ (b : List ℕ → Bool) (m : ℕ) (t : List ℕ) (i n k : ℕ) (lt : i < m) where
   count-cut : k ≡ n + length (keep b (rowAt 19 t i ∷ [])) → k + length (keep b (rows 19 (m - (i + 1)) t (i + 1))) ≡ n + length (keep b (rows 19 (m - i) t i))
   count-cut e =
@@ -111,7 +138,7 @@ module _ (b : List ℕ → Bool) (m : ℕ) (t : List ℕ) (i n k : ℕ) (lt : i 
       ap (λ (q : ℕ). greatest q l) (e ∙ ap (λ (q : List (List ℕ)). greatest n q) (keep-one b (rowAt 19 t i) (b (rowAt 19 t i)) refl))
       ∙ greatest-cut (b (rowAt 19 t i)) (rowAt 19 t i) l n ∙ ap (λ (q : List (List ℕ)). greatest n q) (sym (keep-rows-more b 19 m t i lt))
 
-pub survey-more : (p m : ℕ) (t : List ℕ) (s : Survey) (i : ℕ) (r : Survey) → Surveying p m t s i → i < m → Seen s p (rowAt 19 t i) r → Surveying p m t r (i + 1)
+pub survey-more : (p m : ℕ) (t : List ℕ) (s : Survey) (i : ℕ) (r : Survey) → Surveying p m t s i → i < m → Seen s p i (rowAt 19 t i) r → Surveying p m t r (i + 1)
 survey-more p m t s i r inv lt e =
     let x : List ℕ = rowAt 19 t i in
     let ka : length (keep (onPage p) (x ∷ [])) ≡ length (consIf (eqb (pageOf x) p) x []) = ap (λ (l : List (List ℕ)). length l) (keep-one (onPage p) x (eqb (pageOf x) p) refl) in
@@ -126,6 +153,8 @@ survey-more p m t s i r inv lt e =
       most = most-cut (committedOn p) m t i (s .most) (r .most) lt (e .most) ∙ inv .most;
       fewer = omega (arith, e .all, e .committed, inv .fewer);
       below = omega (arith, e .all, inv .below);
+      clear = before-more (committedOn p) t i (s .from) (r .from) (inv .clear) (e .from);
+      start = earlier-le (committedOn p x) (s .from) i (r .from) m (e .from) (inv .start);
     }
 
 pub survey-all : (p m : ℕ) (t : List ℕ) (s : Survey) (i : ℕ) → Surveying p m t s i → m ≤ i → Surveyed p m t s
@@ -133,6 +162,7 @@ unfolding smallest greatest
 survey-all p m t s i inv q =
     let ae : s .all ≡ 0 + length (keep (onPage p) (rows 19 m t 0)) = count-end (onPage p) 19 m t i (s .all) _ q (inv .all) in
     let ce : s .committed ≡ 0 + length (keep (committedOn p) (rows 19 m t 0)) = count-end (committedOn p) 19 m t i (s .committed) _ q (inv .committed) in
+    let fe : min i (s .from) ≡ s .from = omega (arith, inv .start) in
     record {
       all = omega arith;
       committed = omega arith;
@@ -140,4 +170,6 @@ survey-all p m t s i inv q =
       most = ap (λ (l : List (List ℕ)). greatest (s .most) l) (sym (keep-rows-end (committedOn p) 19 m t i q)) ∙ inv .most;
       fewer = inv .fewer;
       below = omega (arith, inv .below, inv .within);
+      from = rw fe at (inv .clear);
+      within = inv .start;
     }

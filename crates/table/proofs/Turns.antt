@@ -1,8 +1,9 @@
 -- The turns and ends of this crate's loops over rows.
 use Prim.Native.Nat.{ℕ, suc, _+_, _*_, _-_, _≤_, _<_}
 use native.Mathlib.Omega.{arith}
-use mathlib.Core.Path.{_≡_, refl, sym, ap, _∙_}
-use mathlib.Core.Bool.{Bool, true, false, cond, _&&_}
+use native.Mathlib.Numerals.{add-one}
+use mathlib.Core.Path.{_≡_, refl, sym, ap, subst, _∙_}
+use mathlib.Core.Bool.{Bool, true, false, cond, not, _&&_}
 use mathlib.Core.List.{List, _∷_, _++_, append-assoc, append-nil, map}
 use lib.ListN.{length, take, drop, replicate, take-append-drop, length-append, length-drop, drop-of-length-le}
 use lib.Seq.{take-take, drop-drop, length-take-le}
@@ -15,7 +16,8 @@ use Rattle.record.specs.Rows.{rowAt, rows, joined, table, consIf, keep}
 use Rattle.record.specs.Record.{pageOf, ownerOf, bodyOf, ownedBy, gone, entered, numbered, numberRows}
 use Rattle.record.proofs.Parts.{with-take, with-drop, with-length}
 use Rattle.table.proofs.Laws.{rows-more, rows-end, rows-start, keep-rows-more, keep-rows-end, row-length, sub-mul, joined-cons, joined-rows, length-rows, drop-rows, count-start, count-turn, count-end}
-use Rattle.table.proofs.Moves.{lent-back, lent-length}
+use Rattle.table.specs.Before.{NoneBefore, start, pass}
+use Rattle.table.proofs.Moves.{lent-back, lent-length, slide-stays}
 
 -- a step of a count goes up by one at most
 pub step-le : (z : Bool) (n k : ℕ) → k ≡ cond z (n + 1) n → k ≤ n + 1
@@ -317,6 +319,15 @@ squeeze-more b m o t k j s i inv fit lt se₀ ie₀ =
               ∙ inv .bytes;
           count = count-turn b 19 m o j k i _ lt (ie ∙ ap (λ (w : Bool). cond w (k + 1) k) (sym b-is)) (inv .count);
         }
+
+-- rows that all stay are passed, and the table is as it was
+pub squeeze-start : (b : List ℕ → Bool) (m : ℕ) (o : List ℕ) {a : ℕ} → NoneBefore b o a → m * 19 ≤ length o → a ≤ m → Squeezing (λ (x : List ℕ). not (b x)) m o o a a
+squeeze-start b m o start fit le = squeeze-none (λ (x : List ℕ). not (b x)) m o
+squeeze-start b m o (pass {a} h e) fit le =
+    let s : o ≡ cond (not (b (rowAt 19 o a))) (withPart (a * 19) 19 o (rowAt 19 o a)) o = rw e (slide-stays o (a * 19) (a * 19) 19 refl) in
+    let i : a + 1 ≡ cond (not (b (rowAt 19 o a))) (a + 1) a = rw e in
+    subst (λ (k : ℕ). Squeezing (λ (x : List ℕ). not (b x)) m o o k k) (add-one a)
+    (squeeze-more (λ (x : List ℕ). not (b x)) m o o a a o (a + 1) (squeeze-start b m o h fit (omega arith)) fit (omega arith) s i)
 
 pub squeeze-all : (b : List ℕ → Bool) (m : ℕ) (o t : List ℕ) (k j : ℕ) → Squeezing b m o t k j → m ≤ j
     → (take (k * 19) t ≡ joined (keep b (rows 19 m o 0))) × (k ≡ length (keep b (rows 19 m o 0))) × (k ≤ m)

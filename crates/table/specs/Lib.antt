@@ -1,3 +1,4 @@
 -- What the contracts of `table` cite.
 pub mod Stays
+pub mod Before
 pub mod Seen

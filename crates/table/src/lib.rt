@@ -15,6 +15,7 @@ ghost use Rattle.record.specs.Part.{withPart};
 ghost use Rattle.record.specs.Rows.{rowAt, rows, joined, table, keep};
 ghost use Rattle.record.specs.Record.{ownedBy, bodyOf, rowOf, entered, numbered, numberRows, gone};
 ghost use Rattle.table.specs.Stays.{stays};
+ghost use Rattle.table.specs.Before.{NoneBefore};
 ghost use Rattle.table.specs.Seen.{Surveyed};
 
 // How many of the first m rows are the owner's.
@@ -192,12 +193,13 @@ fn keep_row(t: &mut [u8], k: usize, j: usize, whole: bool, owner: u8, p: PageNo)
 }
 
 // The rows of the first m that stay, moved to the front; how many. What stands after them is left over.
-fn squeeze(t: &mut [u8], m: usize, whole: bool, owner: u8, p: PageNo) -> usize
-    requires { ⌜ m * 19 ≤ length (now t) ⌝ }
+// Those before row `from` all stay: they stand where they are to be.
+fn squeeze(t: &mut [u8], from: usize, m: usize, whole: bool, owner: u8, p: PageNo) -> usize
+    requires { ⌜ (m * 19 ≤ length (now t)) × (from ≤ m) × NoneBefore (gone whole owner (p .0)) (now t) from ⌝ }
     ensures { λ r. ⌜ (take (r * 19) (now (t .exit)) ≡ joined (keep (stays whole owner (p .0)) (rows 19 m (now (t .entry)) 0))) × (r ≡ length (keep (stays whole owner (p .0)) (rows 19 m (now (t .entry)) 0))) × (r ≤ m) ⌝ }
 {
-    let mut k = 0;
-    let mut j = 0;
+    let mut k = from;
+    let mut j = from;
     while j < m {
         k = keep_row(t, k, j, whole, owner, p);
         j += 1;
@@ -206,11 +208,20 @@ fn squeeze(t: &mut [u8], m: usize, whole: bool, owner: u8, p: PageNo) -> usize
 }
 
 // The owner's rows of the first m deleted, all or those of one page; how many rows are left. The rest of the table is zero.
-pub fn delete(t: &mut [u8], m: usize, size: usize, whole: bool, owner: u8, p: PageNo) -> usize
-    requires { ⌜ (length (now t) ≡ size * 19) × (m ≤ size) ⌝ }
+// None of them stands before row `from`.
+pub fn delete(
+    t: &mut [u8],
+    from: usize,
+    m: usize,
+    size: usize,
+    whole: bool,
+    owner: u8,
+    p: PageNo,
+) -> usize
+    requires { ⌜ (length (now t) ≡ size * 19) × (m ≤ size) × (from ≤ m) × NoneBefore (gone whole owner (p .0)) (now t) from ⌝ }
     ensures { λ r. ⌜ (now (t .exit) ≡ table 19 size (keep (stays whole owner (p .0)) (rows 19 m (now (t .entry)) 0))) × (r ≡ length (keep (stays whole owner (p .0)) (rows 19 m (now (t .entry)) 0))) ⌝ }
 {
-    let k = squeeze(t, m, whole, owner, p);
+    let k = squeeze(t, from, m, whole, owner, p);
     bytes::clear(t, k * 19);
     k
 }
@@ -235,6 +246,7 @@ pub fn survey(t: &[u8], m: usize, p: PageNo) -> Survey
         committed: 0,
         least: 0,
         most: 0,
+        from: m,
     };
     let mut i = 0;
     while i < m {

@@ -1,18 +1,20 @@
 // A page's rows, looked at one by one.
 ghost use mathlib.Core.Path.{_≡_};
-ghost use Prim.Native.Nat.{_+_, _*_, _≤_, max};
+ghost use Prim.Native.Nat.{_+_, _*_, _≤_, min, max};
 ghost use lib.ListN.{length};
 ghost use Rattle.record.specs.Rows.{rowAt};
 ghost use Rattle.record.specs.Record.{lesser};
 ghost use Rattle.table.specs.Seen.{Seen};
 use number::PageNo;
 
-// What the rows of a page come to: how many, how many of them committed, and the smallest and the greatest number of those (0: none).
+// What the rows of a page come to: how many, how many of them committed, the smallest and the greatest number of those (0: none),
+// and the row from which on they stand (with none: the end).
 pub struct Survey {
     pub all: usize,
     pub committed: usize,
     pub least: u64,
     pub most: u64,
+    pub from: usize,
 }
 
 // The smaller of two numbers, where 0 is none.
@@ -37,10 +39,19 @@ fn greater_of(a: u64, b: u64) -> u64
     a
 }
 
+fn earlier_of(a: usize, b: usize) -> usize
+    ensures { λ r. ⌜ r ≡ min a b ⌝ }
+{
+    if a <= b {
+        return a;
+    }
+    b
+}
+
 // The survey with row i besides.
 pub fn look(s: Survey, t: &[u8], i: usize, p: PageNo) -> Survey
     requires { ⌜ (i * 19 + 19 ≤ length (now t)) × (s .all ≤ i) × (s .committed ≤ i) ⌝ }
-    ensures { λ r. ⌜ Seen s (p .0) (rowAt 19 (now (t .entry)) i) r ⌝ }
+    ensures { λ r. ⌜ Seen s (p .0) i (rowAt 19 (now (t .entry)) i) r ⌝ }
 {
     let q = record::page_of(t, 19, i);
     if q.0 != p.0 {
@@ -53,6 +64,7 @@ pub fn look(s: Survey, t: &[u8], i: usize, p: PageNo) -> Survey
             committed: s.committed,
             least: s.least,
             most: s.most,
+            from: s.from,
         };
     }
     let k = record::number_of(t, i);
@@ -61,5 +73,6 @@ pub fn look(s: Survey, t: &[u8], i: usize, p: PageNo) -> Survey
         committed: s.committed + 1,
         least: lesser_of(s.least, k.0),
         most: greater_of(s.most, k.0),
+        from: earlier_of(s.from, i),
     }
 }

@@ -20,7 +20,7 @@ write-page-requires c κs =
     let m = c .before .before .before .before .measure in
     let k = c .before .before .plan-for in
     let q = planned-seen (now (a .fixed)) (now (a .tables)) (now (a .online)) (a .p .0) _ (m .result) (a .s) (k .result) (m .ensures) (s .pre .2) (k .ensures) in
-    page-there (now (a .fixed)) (now (a .marks)) (now (a .log)) (now (a .stored)) (now (a .tables)) (now (a .online)) (now (a .pool)) (a .p .0) (m .result) (k .result) (m .ensures) q (s .pre .0) (s .pre .1)
+    page-there (now (a .fixed)) (now (a .marks)) (now (a .log)) (now (a .stored)) (now (a .tables)) (now (a .online)) (now (a .pool)) (a .p .0) (m .result) (k .result) (m .ensures) q (a .s) (s .pre .2) (s .pre .0) (s .pre .1)
 
 compact-lost-requires : tie.Need-compact-lost-requires
 compact-lost-requires c κs =
@@ -29,7 +29,7 @@ compact-lost-requires c κs =
     let m = c .before .before .before .before .before .before .before .before .before .measure in
     let k = c .before .before .before .before .before .before .before .plan-for in
     let q = planned-seen (now (a .fixed)) (now (a .tables)) (now (a .online)) (a .p .0) _ (m .result) (a .s) (k .result) (m .ensures) (s .pre .2) (k .ensures) in
-    tables-there (now (a .fixed)) (now (a .marks)) (now (a .log)) (now (a .stored)) (now (a .tables)) (now (a .online)) (now (a .pool)) (a .p .0) (m .result) (k .result) (m .ensures) q (s .pre .0) (s .pre .1)
+    tables-there (now (a .fixed)) (now (a .marks)) (now (a .log)) (now (a .stored)) (now (a .tables)) (now (a .online)) (now (a .pool)) (a .p .0) (m .result) (k .result) (m .ensures) q (a .s) (s .pre .2) (s .pre .0) (s .pre .1)
 
 mul-store : tie.Need-mul-store
 mul-store c = omega (arith, c .before .before .before .before .before .before .before .before .before .before .before .before .before .before .before .before .before .before .before .before .before .before .before .before .before .pre .1, c .before .before .before .before .before .before .before .before .before .before .before .before .before .before .before .before .before .before .before .before .before .before .before .before .before .pre .0 .sized .pages)

@@ -1,7 +1,9 @@
 -- `frames::rebuild` meets its contract: the stored page is copied, then its rows are applied where it was evicted.
+use mathlib.Core.Path.{_∙_}
 use denote.Ref.{now}
 use borrow.Author.Tests.{not-true, not-false}
 use borrow.Author.Needs.{needs}
+use Rattle.apply.proofs.Laws.{fold-all}
 use Rattle.frames.proofs.Laws.{rebuilt-plain, rebuilt-rows}
 use Rattle.frames.proofs.rebuild.Statement.{statement}
 use Rattle.frames.proofs.rebuild.Tie as tie
@@ -41,7 +43,7 @@ same-length-2 c = search needs
 returns-2 : tie.Need-returns-2
 returns-2 c =
     let a = c .before .before .before .before .before .before .before .before .before .before .before .before .before .before .args in
-    rebuilt-rows (now (a .stored)) (c .before .before .before .before .before .before .before .copy .last .0) (c .before .before .fold .last .1 .1 .1 .1 .0) (a .size) (a .p .0) (a .evicted) _ (not-false _ (c .before .before .before .before .if1 .left)) (c .before .before .before .before .before .before .before .copy .ensures) (c .before .before .fold .ensures)
+    rebuilt-rows (now (a .stored)) (c .before .before .before .before .before .before .before .copy .last .0) (c .before .before .fold .last .1 .1 .1 .1 .1 .0) (a .size) (a .p .0) (a .evicted) _ (not-false _ (c .before .before .before .before .if1 .left)) (c .before .before .before .before .before .before .before .copy .ensures) (c .before .before .fold .ensures ∙ fold-all _ _ _ _)
 
 pub rebuild-spec : {M : Type 1} → statement M
 rebuild-spec =

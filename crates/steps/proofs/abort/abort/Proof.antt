@@ -7,6 +7,7 @@ use Rattle.record.specs.Part.{part}
 use Rattle.record.specs.Rows.{rows, keep}
 use Rattle.record.specs.Record.{ownedBy}
 use Rattle.table.specs.Stays.{stays}
+use Rattle.table.specs.Before.{start}
 use Rattle.steps.proofs.Laws.{abort-written}
 use borrow.Author.Needs.{needs}
 use Rattle.steps.proofs.abort.abort.Statement.{statement}
@@ -16,7 +17,7 @@ take-pages-requires : tie.Need-take-pages-requires
 take-pages-requires c κs = search needs
 
 delete-requires : tie.Need-delete-requires
-delete-requires c κs = search needs
+delete-requires c κs = (search needs, search needs, search needs, start)
 
 store-requires : tie.Need-store-requires
 store-requires c κs = search needs
