@@ -1,7 +1,8 @@
 -- A door tells what its call says: refused, or done.
 use Prim.Native.Nat.{ℕ}
+use native.Mathlib.Omega.{arith}
 use mathlib.Core.Path.{_≡_, refl, sym, ap, _∙_}
-use mathlib.Core.Bool.{Bool, true, false, not}
+use mathlib.Core.Bool.{Bool, true, false, cond, not}
 use mathlib.Core.List.{List, []}
 use Rattle.rules.specs.declared.Refusal.{Refusal}
 use Rattle.rules.specs.declared.Refusal.the-variants.{NotSound}
@@ -12,9 +13,10 @@ use Rattle.rules.specs.declared.Reply.{Reply}
 use Rattle.rules.specs.Answers.{replyOf}
 use Rattle.rules.specs.Lent.{Lent}
 use Rattle.rules.specs.Sound.{sound}
-use Rattle.rules.specs.Steps.{Left}
-use Rattle.rules.specs.Calls.{Outcome, refuseIf, checked, doneWith, dueOr, settled}
+use Rattle.rules.specs.Steps.{Left, left, due, compacted, compactStep}
+use Rattle.rules.specs.Calls.{Outcome, refuseIf, checked, doneWith, dueOr, settled, judgeCompact, compactCall}
 use Rattle.rules.proofs.Verdicts.{refused, passed, holds}
+use Rattle.compact.proofs.Laws.{writes-done}
 use Rattle.ventarico.specs.Said.{Told, doneAs}
 
 -- a verdict of no: the refusal's reply, and every byte as it was
@@ -50,26 +52,26 @@ buffer-refused v s buffer o why e = sym (ap (λ (w : Verdict). settled w s buffe
 pub buffer-done : (v : Verdict) (s : Lent) (buffer after b : List ℕ) (d : Left) → v ≡ Go → b ≡ after → b ≡ settled v s buffer (doneWith d after) .buffer
 buffer-done v s buffer after b d e h = h ∙ sym (ap (λ (w : Verdict). settled w s buffer (doneWith d after) .buffer) e)
 
--- compact: not due, and due
-pub told-not-due : (v : Verdict) (s : Lent) (b : Bool) (o : Outcome) (r : Reply) → v ≡ Go → b ≡ false → r ≡ replyOf NotDue → Told (settled v s [] (dueOr b s o)) r s
-told-not-due v s b o r e f h =
-    record {
-      reply = h ∙ sym (λ i. replyOf (settled (e i) s [] (dueOr (f i) s o) .answer));
-      lent = sym (λ i. settled (e i) s [] (dueOr (f i) s o) .lent);
-    }
+-- compact is a step that writes one page where it is due, and else none
+none-written : (b : Bool) (d : Left) (s : Lent) → 1 ≡ d .writes → cond b d (left s 0 0 0) .writes ≡ 0 → b ≡ false
+none-written true d s one h = absurd (omega arith)
+none-written false d s one h = refl
 
-pub told-due : (v : Verdict) (s : Lent) (b : Bool) (d : Left) (r : Reply) (t : Lent) → v ≡ Go → b ≡ true → r ≡ doneAs (d .reads) (d .writes) (d .logs) → t ≡ d .lent → Told (settled v s [] (dueOr b s (doneWith d []))) r t
-told-due v s b d r t e f h l =
-    record {
-      reply = h ∙ sym (λ i. replyOf (settled (e i) s [] (dueOr (f i) s (doneWith d [])) .answer));
-      lent = l ∙ sym (λ i. settled (e i) s [] (dueOr (f i) s (doneWith d [])) .lent);
-    }
+one-written : (b : Bool) (d : Left) (s : Lent) → (cond b d (left s 0 0 0) .writes ≡ 0 → ⊥) → b ≡ true
+one-written true d s h = refl
+one-written false d s h = absurd (h refl)
 
--- a test's value from the call that asked it
-pub not-so : (a b : Bool) → a ≡ b → not a ≡ true → b ≡ false
-not-so true b e h = absurd (mathlib.Core.Bool.false≢true h)
-not-so false b e h = sym e
+module _ (s : Lent) (p minDel maxAge : ℕ) (reads writes : ℕ) (t : Lent)
+    (stepped : (reads ≡ compactStep minDel maxAge s p .reads) × ((writes ≡ compactStep minDel maxAge s p .writes) × (t ≡ compactStep minDel maxAge s p .lent))) where
+  pub told-not-due : (r : Reply) → judgeCompact s p minDel maxAge ≡ Go → writes ≡ 0 → r ≡ replyOf NotDue → Told (compactCall s p minDel maxAge) r t
+  unfolding compactCall compactStep
+  told-not-due r go none e =
+      let never : due s p minDel maxAge ≡ false = none-written (due s p minDel maxAge) (compacted s p) s (writes-done s p) (sym (stepped .1 .0) ∙ none) in
+      record { reply = rw (go, never) e; lent = rw (go, never) (rw never at (stepped .1 .1)) }
 
-pub so : (a b : Bool) → a ≡ b → not a ≡ false → b ≡ true
-so true b e h = sym e
-so false b e h = absurd (mathlib.Core.Bool.false≢true (sym h))
+  pub told-due : (r : Reply) → judgeCompact s p minDel maxAge ≡ Go → (writes ≡ 0 → ⊥) → r ≡ doneAs reads writes 0 → Told (compactCall s p minDel maxAge) r t
+  unfolding compactCall compactStep compacted
+  told-due r go some e =
+      let now : due s p minDel maxAge ≡ true = one-written (due s p minDel maxAge) (compacted s p) s (λ h. some (stepped .1 .0 ∙ h)) in
+      let as-told = rw now at stepped in
+      record { reply = rw (go, now) (e ∙ (λ i. doneAs (as-told .0 i) (as-told .1 .0 i) 0)); lent = rw (go, now) (as-told .1 .1) }
