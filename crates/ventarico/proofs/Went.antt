@@ -220,9 +220,31 @@ unfolding soundDurable s14-log-zero
 log-zero s e =
     and-right (s1-parameters s && s2-lengths s && s3-logged s && s16-logged s && s18-first s && s15-stamps s && s17-s19-dirty s && s7-log-records s) (s14-log-zero s) (sound-durable s e)
 
-pub online-zero : (s : Lent) → sound s ≡ true → zeros (drop (countOf s * 19) (s .lost .online)) ≡ true
-unfolding soundLost s14-online-zero
-online-zero s e =
-    let front : Bool = s3-counts s && s20-live s && s4-entries s && s5-frame-once s && s6-order s && s14-order-zero s && s7-online-records s && s8-owners s in
-    let h : (front && s14-online-zero s) ≡ true = and-left (front && s14-online-zero s) (s10-in-log s) (and-left (front && s14-online-zero s && s10-in-log s) (s11-above-stamp s) (and-left (front && s14-online-zero s && s10-in-log s && s11-above-stamp s) (s9-number-once s) (and-left (front && s14-online-zero s && s10-in-log s && s11-above-stamp s && s9-number-once s) (s12-dirty s) (and-left (front && s14-online-zero s && s10-in-log s && s11-above-stamp s && s9-number-once s && s12-dirty s) (s13-apart s) (sound-lost s e))))) in
-    and-right front (s14-online-zero s) h
+module _ (s : Lent) where
+  -- the lost part's tests, as far as the online table's zeros and on from there
+  abbrev to-owners : Bool
+  to-owners = s3-counts s && s20-live s && s4-entries s && s5-frame-once s && s6-order s && s14-order-zero s && s7-online-records s && s8-owners s
+
+  abbrev to-zeros : Bool
+  to-zeros = to-owners && s14-online-zero s
+
+  abbrev to-log : Bool
+  to-log = to-zeros && s10-in-log s
+
+  abbrev to-stamp : Bool
+  to-stamp = to-log && s11-above-stamp s
+
+  abbrev to-once : Bool
+  to-once = to-stamp && s9-number-once s
+
+  abbrev to-dirty : Bool
+  to-dirty = to-once && s12-dirty s
+
+  pub online-zero : sound s ≡ true → zeros (drop (countOf s * 19) (s .lost .online)) ≡ true
+  unfolding soundLost s14-online-zero
+  online-zero e =
+      let dirty : to-dirty ≡ true = and-left to-dirty (s13-apart s) (sound-lost s e) in
+      let once : to-once ≡ true = and-left to-once (s12-dirty s) dirty in
+      let stamp : to-stamp ≡ true = and-left to-stamp (s9-number-once s) once in
+      let log : to-log ≡ true = and-left to-log (s11-above-stamp s) stamp in
+      and-right to-owners (s14-online-zero s) (and-left to-zeros (s10-in-log s) log)

@@ -49,6 +49,7 @@ pub extern "C" fn ventarico_compact(
                 min_del as u64,
                 max_age as u64,
             );
+            // A step writes its page exactly where it was due.
             if c.writes == 0 {
                 return crate::answer::not_due();
             }
