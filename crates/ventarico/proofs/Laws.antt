@@ -1,53 +1,25 @@
--- A door tells what its call says: refused, or done.
+-- Compact's step writes one page where compact is due, and else none: so its door knows by the pages written.
 use Prim.Native.Nat.{ℕ}
-use mathlib.Core.Path.{_≡_, refl, sym, ap, _∙_}
-use mathlib.Core.Bool.{Bool, true, false}
-use mathlib.Core.List.{List, []}
-use Rattle.rules.specs.declared.Refusal.{Refusal}
-use Rattle.rules.specs.declared.Verdict.{Verdict}
-use Rattle.rules.specs.declared.Verdict.the-variants.{Go, Refuse}
-use Rattle.rules.specs.declared.Answer.the-variants.{Done, NotDue, Refused}
-use Rattle.rules.specs.declared.Reply.{Reply}
-use Rattle.rules.specs.Answers.{replyOf}
+use native.Mathlib.Omega.{arith}
+use mathlib.Core.Path.{_≡_, refl, sym, _∙_}
+use mathlib.Core.Bool.{Bool, true, false, cond}
 use Rattle.rules.specs.Lent.{Lent}
-use Rattle.rules.specs.Steps.{Left}
-use Rattle.rules.specs.Calls.{Outcome, refuseIf, doneWith, dueOr, settled}
-use Rattle.ventarico.specs.Said.{Told, doneAs}
+use Rattle.rules.specs.Steps.{Left, left, due, compacted, compactStep}
+use Rattle.compact.proofs.Laws.{writes-done}
 
--- a verdict of no: the refusal's reply, and every byte as it was
-pub told-refused : (v : Verdict) (s : Lent) (buffer : List ℕ) (o : Outcome) (why : Refusal) (r : Reply) → v ≡ Refuse why → r ≡ replyOf (Refused why) → Told (settled v s buffer o) r s
-told-refused v s buffer o why r e h =
-    record {
-      reply = h ∙ sym (ap (λ (w : Verdict). replyOf (settled w s buffer o .answer)) e);
-      lent = sym (ap (λ (w : Verdict). settled w s buffer o .lent) e);
-    }
+none-written : (b : Bool) (d : Left) (s : Lent) → 1 ≡ d .writes → cond b d (left s 0 0 0) .writes ≡ 0 → b ≡ false
+none-written true d s one h = absurd (omega arith)
+none-written false d s one h = refl
 
--- a verdict of go: the step's counts and bytes
-pub told-done : (v : Verdict) (s : Lent) (buffer after : List ℕ) (d : Left) (r : Reply) (t : Lent) → v ≡ Go → r ≡ doneAs (d .reads) (d .writes) (d .logs) → t ≡ d .lent → Told (settled v s buffer (doneWith d after)) r t
-told-done v s buffer after d r t e h l =
-    record {
-      reply = h ∙ sym (ap (λ (w : Verdict). replyOf (settled w s buffer (doneWith d after) .answer)) e);
-      lent = l ∙ sym (ap (λ (w : Verdict). settled w s buffer (doneWith d after) .lent) e);
-    }
+one-written : (b : Bool) (d : Left) (s : Lent) → (cond b d (left s 0 0 0) .writes ≡ 0 → ⊥) → b ≡ true
+one-written true d s h = refl
+one-written false d s h = absurd (h refl)
 
--- read's buffer beside them
-pub buffer-refused : (v : Verdict) (s : Lent) (buffer : List ℕ) (o : Outcome) (why : Refusal) → v ≡ Refuse why → buffer ≡ settled v s buffer o .buffer
-buffer-refused v s buffer o why e = sym (ap (λ (w : Verdict). settled w s buffer o .buffer) e)
+module _ (s : Lent) (p minDel maxAge writes : ℕ) (e : writes ≡ compactStep minDel maxAge s p .writes) where
+  pub was-not-due : writes ≡ 0 → due s p minDel maxAge ≡ false
+  unfolding compactStep
+  was-not-due h = none-written (due s p minDel maxAge) (compacted s p) s (writes-done s p) (sym e ∙ h)
 
-pub buffer-done : (v : Verdict) (s : Lent) (buffer after b : List ℕ) (d : Left) → v ≡ Go → b ≡ after → b ≡ settled v s buffer (doneWith d after) .buffer
-buffer-done v s buffer after b d e h = h ∙ sym (ap (λ (w : Verdict). settled w s buffer (doneWith d after) .buffer) e)
-
--- compact: not due, and due
-pub told-not-due : (v : Verdict) (s : Lent) (b : Bool) (o : Outcome) (r : Reply) → v ≡ Go → b ≡ false → r ≡ replyOf NotDue → Told (settled v s [] (dueOr b s o)) r s
-told-not-due v s b o r e f h =
-    record {
-      reply = h ∙ sym (λ i. replyOf (settled (e i) s [] (dueOr (f i) s o) .answer));
-      lent = sym (λ i. settled (e i) s [] (dueOr (f i) s o) .lent);
-    }
-
-pub told-due : (v : Verdict) (s : Lent) (b : Bool) (d : Left) (r : Reply) (t : Lent) → v ≡ Go → b ≡ true → r ≡ doneAs (d .reads) (d .writes) (d .logs) → t ≡ d .lent → Told (settled v s [] (dueOr b s (doneWith d []))) r t
-told-due v s b d r t e f h l =
-    record {
-      reply = h ∙ sym (λ i. replyOf (settled (e i) s [] (dueOr (f i) s (doneWith d [])) .answer));
-      lent = l ∙ sym (λ i. settled (e i) s [] (dueOr (f i) s (doneWith d [])) .lent);
-    }
+  pub was-due : (writes ≡ 0 → ⊥) → due s p minDel maxAge ≡ true
+  unfolding compactStep
+  was-due h = one-written (due s p minDel maxAge) (compacted s p) s (λ z. h (e ∙ z))

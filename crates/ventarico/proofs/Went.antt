@@ -200,13 +200,31 @@ unfolding soundDurable s14-log-zero
 log-zero s e =
     and-both (s1-parameters s && s2-lengths s && s3-logged s && s16-logged s && s18-first s && s15-stamps s && s17-s19-dirty s && s7-log-records s) (s14-log-zero s) (sound-durable s e) .1
 
-pub online-zero : (s : Lent) → sound s ≡ true → zeros (drop (countOf s * 19) (s .lost .online)) ≡ true
-unfolding soundLost s14-online-zero
-online-zero s e =
-    let front : Bool = s3-counts s && s20-live s && s4-entries s && s5-frame-once s && s6-order s && s14-order-zero s && s7-online-records s && s8-owners s in
-    let a₁ = and-both (front && s14-online-zero s && s10-in-log s && s11-above-stamp s && s9-number-once s && s12-dirty s) (s13-apart s) (sound-lost s e) .0 in
-    let a₂ = and-both (front && s14-online-zero s && s10-in-log s && s11-above-stamp s && s9-number-once s) (s12-dirty s) a₁ .0 in
-    let a₃ = and-both (front && s14-online-zero s && s10-in-log s && s11-above-stamp s) (s9-number-once s) a₂ .0 in
-    let a₄ = and-both (front && s14-online-zero s && s10-in-log s) (s11-above-stamp s) a₃ .0 in
-    let a₅ = and-both (front && s14-online-zero s) (s10-in-log s) a₄ .0 in
-    and-both front (s14-online-zero s) a₅ .1
+module _ (s : Lent) where
+  -- the lost part's tests, as far as the online table's zeros and on from there
+  abbrev to-owners : Bool
+  to-owners = s3-counts s && s20-live s && s4-entries s && s5-frame-once s && s6-order s && s14-order-zero s && s7-online-records s && s8-owners s
+
+  abbrev to-zeros : Bool
+  to-zeros = to-owners && s14-online-zero s
+
+  abbrev to-log : Bool
+  to-log = to-zeros && s10-in-log s
+
+  abbrev to-stamp : Bool
+  to-stamp = to-log && s11-above-stamp s
+
+  abbrev to-once : Bool
+  to-once = to-stamp && s9-number-once s
+
+  abbrev to-dirty : Bool
+  to-dirty = to-once && s12-dirty s
+
+  pub online-zero : sound s ≡ true → zeros (drop (countOf s * 19) (s .lost .online)) ≡ true
+  unfolding soundLost s14-online-zero
+  online-zero e =
+      let dirty : to-dirty ≡ true = and-both to-dirty (s13-apart s) (sound-lost s e) .0 in
+      let once : to-once ≡ true = and-both to-once (s12-dirty s) dirty .0 in
+      let stamp : to-stamp ≡ true = and-both to-stamp (s9-number-once s) once .0 in
+      let log : to-log ≡ true = and-both to-log (s11-above-stamp s) stamp .0 in
+      and-both to-owners (s14-online-zero s) (and-both to-zeros (s10-in-log s) log .0) .1

@@ -37,7 +37,7 @@ pub extern "C" fn ventarico_compact(
     match v {
         Verdict::Refuse(why) => crate::answer::refused(why),
         Verdict::Go => {
-            if !compact::is_due(
+            let c = compact::compact_step(
                 fixed,
                 marks,
                 log,
@@ -48,19 +48,11 @@ pub extern "C" fn ventarico_compact(
                 PageNo(page as usize),
                 min_del as u64,
                 max_age as u64,
-            ) {
+            );
+            // A step writes its page exactly where it was due.
+            if c.writes == 0 {
                 return crate::answer::not_due();
             }
-            let c = compact::compact_page(
-                fixed,
-                marks,
-                log,
-                stored,
-                tables,
-                online,
-                pool,
-                PageNo(page as usize),
-            );
             crate::answer::done(c.reads, c.writes, 0)
         }
     }

@@ -1,18 +1,38 @@
 -- `ventarico_abort` keeps its promise: refused as `judgeAbort` says, else done as `aborted` says.
-use Rattle.rules.proofs.Verdicts.{number-most}
-use Rattle.ventarico.proofs.Laws.{told-refused, told-done}
-use Rattle.sound.proofs.Laws.{sound-shaped}
-use Rattle.rules.specs.Lent.{lentOf}
+use Rattle.rules.specs.Lent.{Lent, lentOf}
 use denote.Ref.{now}
-use mathlib.Core.Path.{sym, _∙_}
+use Rattle.rules.specs.declared.Verdict.{Verdict}
+use Rattle.rules.specs.declared.Verdict.the-variants.{Go, Refuse}
+use mathlib.Core.Path.{_≡_, refl, sym, _∙_}
 use native.Mathlib.Omega.{arith}
-use mathlib.Core.List.{[]}
-use Rattle.rules.specs.Calls.{doneWith, judgeAbort, abortCall}
-use Rattle.rules.specs.Steps.{aborted}
+use Rattle.rules.specs.Calls.{judgeAbort, abortCall}
+use Rattle.rules.specs.Steps.{lostNow, aborted}
+use Rattle.sound.proofs.Laws.{sound-shaped}
+use Rattle.rules.proofs.Verdicts.{number-most}
 use Rattle.ventarico.proofs.Went.{abort-went}
 use borrow.Author.Needs.{needs}
 use Rattle.ventarico.proofs.door.abort_call.ventarico_abort.Statement.{statement}
 use Rattle.ventarico.proofs.door.abort_call.ventarico_abort.Tie as tie
+
+-- the door's start, from where the judge has answered
+abbrev start : tie.After-judge-abort → tie.Start
+start j = j .before .before .before .before .before .before .before .before .before .before
+
+-- the lent bytes at entry
+abbrev lent : tie.After-judge-abort → Lent
+lent j =
+    let a = start j .args in
+    lentOf (now (a .fixed)) (now (a .marks)) (now (a .log)) (now (a .stored)) (now (a .tables)) (now (a .online)) (now (a .pool))
+
+-- what the rules say there, and so the judge: a refusal, or go
+abbrev word : tie.After-judge-abort → Verdict
+word j = let a = start j .args in judgeAbort (lent j) (a .number)
+
+refused : (k : tie.After-v) → word (k .before .before) ≡ Refuse (k .v .given .0 .0)
+refused k = sym (k .before .before .judge-abort .ensures) ∙ k .v .given .1
+
+went : (k : tie.After-enum-told) → word (k .before .before) ≡ Go
+went k = sym (k .before .before .judge-abort .ensures) ∙ k .enum-told .given .1
 
 judge-abort-requires : tie.Need-judge-abort-requires
 judge-abort-requires c κs = search needs
@@ -27,10 +47,21 @@ enum-told : tie.Need-enum-told
 enum-told c = search needs
 
 cast-abort-owner : tie.Need-cast-abort-owner
-cast-abort-owner c = omega (arith, number-most (c .before .before .before .before .before .before .before .before .before .before .before .before .before .before .args .number) (abort-went (lentOf (now (c .before .before .before .before .before .before .before .before .before .before .before .before .before .before .args .fixed)) (now (c .before .before .before .before .before .before .before .before .before .before .before .before .before .before .args .marks)) (now (c .before .before .before .before .before .before .before .before .before .before .before .before .before .before .args .log)) (now (c .before .before .before .before .before .before .before .before .before .before .before .before .before .before .args .stored)) (now (c .before .before .before .before .before .before .before .before .before .before .before .before .before .before .args .tables)) (now (c .before .before .before .before .before .before .before .before .before .before .before .before .before .before .args .online)) (now (c .before .before .before .before .before .before .before .before .before .before .before .before .before .before .args .pool))) (c .before .before .before .before .before .before .before .before .before .before .before .before .before .before .args .number) (sym (c .before .before .before .before .judge-abort .ensures) ∙ c .before .before .enum-told .given .1) .1))
+cast-abort-owner c =
+    let k = c .before .before in
+    let j = k .before .before in
+    let x = start j .args .number in
+    let w = abort-went (lent j) x (went k) in
+    omega (arith, number-most x (w .1))
 
+-- what the step asks for, by the tests that it passed
 abort-owner-requires : tie.Need-abort-owner-requires
-abort-owner-requires c κs = omega (arith, (sound-shaped (lentOf (now (c .before .before .before .before .before .before .before .before .before .before .before .before .before .before .args .fixed)) (now (c .before .before .before .before .before .before .before .before .before .before .before .before .before .before .args .marks)) (now (c .before .before .before .before .before .before .before .before .before .before .before .before .before .before .args .log)) (now (c .before .before .before .before .before .before .before .before .before .before .before .before .before .before .args .stored)) (now (c .before .before .before .before .before .before .before .before .before .before .before .before .before .before .args .tables)) (now (c .before .before .before .before .before .before .before .before .before .before .before .before .before .before .args .online)) (now (c .before .before .before .before .before .before .before .before .before .before .before .before .before .before .args .pool))) (abort-went (lentOf (now (c .before .before .before .before .before .before .before .before .before .before .before .before .before .before .args .fixed)) (now (c .before .before .before .before .before .before .before .before .before .before .before .before .before .before .args .marks)) (now (c .before .before .before .before .before .before .before .before .before .before .before .before .before .before .args .log)) (now (c .before .before .before .before .before .before .before .before .before .before .before .before .before .before .args .stored)) (now (c .before .before .before .before .before .before .before .before .before .before .before .before .before .before .args .tables)) (now (c .before .before .before .before .before .before .before .before .before .before .before .before .before .before .args .online)) (now (c .before .before .before .before .before .before .before .before .before .before .before .before .before .before .args .pool))) (c .before .before .before .before .before .before .before .before .before .before .before .before .before .before .args .number) (sym (c .before .before .before .before .judge-abort .ensures) ∙ c .before .before .enum-told .given .1) .0)), number-most (c .before .before .before .before .before .before .before .before .before .before .before .before .before .before .args .number) (abort-went (lentOf (now (c .before .before .before .before .before .before .before .before .before .before .before .before .before .before .args .fixed)) (now (c .before .before .before .before .before .before .before .before .before .before .before .before .before .before .args .marks)) (now (c .before .before .before .before .before .before .before .before .before .before .before .before .before .before .args .log)) (now (c .before .before .before .before .before .before .before .before .before .before .before .before .before .before .args .stored)) (now (c .before .before .before .before .before .before .before .before .before .before .before .before .before .before .args .tables)) (now (c .before .before .before .before .before .before .before .before .before .before .before .before .before .before .args .online)) (now (c .before .before .before .before .before .before .before .before .before .before .before .before .before .before .args .pool))) (c .before .before .before .before .before .before .before .before .before .before .before .before .before .before .args .number) (sym (c .before .before .before .before .judge-abort .ensures) ∙ c .before .before .enum-told .given .1) .1))
+abort-owner-requires c κs =
+    let k = c .before .before in
+    let j = k .before .before in
+    let x = start j .args .number in
+    let w = abort-went (lent j) x (went k) in
+    omega (arith, sound-shaped (lent j) (w .0), number-most x (w .1))
 
 done-requires : tie.Need-done-requires
 done-requires c κs = search needs
@@ -41,9 +72,10 @@ same-length c = search needs
 same-length-2 : tie.Need-same-length-2
 same-length-2 c = search needs
 
+-- a refusal: its reply, and every byte as it was
 returns : tie.Need-returns
 unfolding abortCall
-returns c = told-refused (judgeAbort (lentOf (now (c .before .before .before .before .before .before .before .before .before .before .before .before .before .before .args .fixed)) (now (c .before .before .before .before .before .before .before .before .before .before .before .before .before .before .args .marks)) (now (c .before .before .before .before .before .before .before .before .before .before .before .before .before .before .args .log)) (now (c .before .before .before .before .before .before .before .before .before .before .before .before .before .before .args .stored)) (now (c .before .before .before .before .before .before .before .before .before .before .before .before .before .before .args .tables)) (now (c .before .before .before .before .before .before .before .before .before .before .before .before .before .before .args .online)) (now (c .before .before .before .before .before .before .before .before .before .before .before .before .before .before .args .pool))) (c .before .before .before .before .before .before .before .before .before .before .before .before .before .before .args .number)) (lentOf (now (c .before .before .before .before .before .before .before .before .before .before .before .before .before .before .args .fixed)) (now (c .before .before .before .before .before .before .before .before .before .before .before .before .before .before .args .marks)) (now (c .before .before .before .before .before .before .before .before .before .before .before .before .before .before .args .log)) (now (c .before .before .before .before .before .before .before .before .before .before .before .before .before .before .args .stored)) (now (c .before .before .before .before .before .before .before .before .before .before .before .before .before .before .args .tables)) (now (c .before .before .before .before .before .before .before .before .before .before .before .before .before .before .args .online)) (now (c .before .before .before .before .before .before .before .before .before .before .before .before .before .before .args .pool))) [] (doneWith (aborted (lentOf (now (c .before .before .before .before .before .before .before .before .before .before .before .before .before .before .args .fixed)) (now (c .before .before .before .before .before .before .before .before .before .before .before .before .before .before .args .marks)) (now (c .before .before .before .before .before .before .before .before .before .before .before .before .before .before .args .log)) (now (c .before .before .before .before .before .before .before .before .before .before .before .before .before .before .args .stored)) (now (c .before .before .before .before .before .before .before .before .before .before .before .before .before .before .args .tables)) (now (c .before .before .before .before .before .before .before .before .before .before .before .before .before .before .args .online)) (now (c .before .before .before .before .before .before .before .before .before .before .before .before .before .before .args .pool))) (c .before .before .before .before .before .before .before .before .before .before .before .before .before .before .args .number)) []) (c .before .before .v .given .0 .0) _ (sym (c .before .before .before .before .judge-abort .ensures) ∙ c .before .before .v .given .1) (c .refused .ensures)
+returns c = rw (refused (c .before .before)) (record { reply = c .refused .ensures; lent = refl })
 
 same-length-3 : tie.Need-same-length-3
 same-length-3 c = search needs
@@ -51,9 +83,15 @@ same-length-3 c = search needs
 same-length-4 : tie.Need-same-length-4
 same-length-4 c = search needs
 
+-- go: what the step counted and left
 returns-2 : tie.Need-returns-2
 unfolding abortCall aborted
-returns-2 c = told-done (judgeAbort (lentOf (now (c .before .before .before .before .before .before .before .before .before .before .before .before .before .before .before .before .before .before .before .before .args .fixed)) (now (c .before .before .before .before .before .before .before .before .before .before .before .before .before .before .before .before .before .before .before .before .args .marks)) (now (c .before .before .before .before .before .before .before .before .before .before .before .before .before .before .before .before .before .before .before .before .args .log)) (now (c .before .before .before .before .before .before .before .before .before .before .before .before .before .before .before .before .before .before .before .before .args .stored)) (now (c .before .before .before .before .before .before .before .before .before .before .before .before .before .before .before .before .before .before .before .before .args .tables)) (now (c .before .before .before .before .before .before .before .before .before .before .before .before .before .before .before .before .before .before .before .before .args .online)) (now (c .before .before .before .before .before .before .before .before .before .before .before .before .before .before .before .before .before .before .before .before .args .pool))) (c .before .before .before .before .before .before .before .before .before .before .before .before .before .before .before .before .before .before .before .before .args .number)) (lentOf (now (c .before .before .before .before .before .before .before .before .before .before .before .before .before .before .before .before .before .before .before .before .args .fixed)) (now (c .before .before .before .before .before .before .before .before .before .before .before .before .before .before .before .before .before .before .before .before .args .marks)) (now (c .before .before .before .before .before .before .before .before .before .before .before .before .before .before .before .before .before .before .before .before .args .log)) (now (c .before .before .before .before .before .before .before .before .before .before .before .before .before .before .before .before .before .before .before .before .args .stored)) (now (c .before .before .before .before .before .before .before .before .before .before .before .before .before .before .before .before .before .before .before .before .args .tables)) (now (c .before .before .before .before .before .before .before .before .before .before .before .before .before .before .before .before .before .before .before .before .args .online)) (now (c .before .before .before .before .before .before .before .before .before .before .before .before .before .before .before .before .before .before .before .before .args .pool))) [] [] (aborted (lentOf (now (c .before .before .before .before .before .before .before .before .before .before .before .before .before .before .before .before .before .before .before .before .args .fixed)) (now (c .before .before .before .before .before .before .before .before .before .before .before .before .before .before .before .before .before .before .before .before .args .marks)) (now (c .before .before .before .before .before .before .before .before .before .before .before .before .before .before .before .before .before .before .before .before .args .log)) (now (c .before .before .before .before .before .before .before .before .before .before .before .before .before .before .before .before .before .before .before .before .args .stored)) (now (c .before .before .before .before .before .before .before .before .before .before .before .before .before .before .before .before .before .before .before .before .args .tables)) (now (c .before .before .before .before .before .before .before .before .before .before .before .before .before .before .before .before .before .before .before .before .args .online)) (now (c .before .before .before .before .before .before .before .before .before .before .before .before .before .before .before .before .before .before .before .before .args .pool))) (c .before .before .before .before .before .before .before .before .before .before .before .before .before .before .before .before .before .before .before .before .args .number)) _ _ (sym (c .before .before .before .before .before .before .before .before .before .before .judge-abort .ensures) ∙ c .before .before .before .before .before .before .before .before .enum-told .given .1) (c .done .ensures) (λ i. lentOf (now (c .before .before .before .before .before .before .before .before .before .before .before .before .before .before .before .before .before .before .before .before .args .fixed)) (now (c .before .before .before .before .before .before .before .before .before .before .before .before .before .before .before .before .before .before .before .before .args .marks)) (now (c .before .before .before .before .before .before .before .before .before .before .before .before .before .before .before .before .before .before .before .before .args .log)) (now (c .before .before .before .before .before .before .before .before .before .before .before .before .before .before .before .before .before .before .before .before .args .stored)) (c .before .before .before .before .before .abort-owner .ensures .0 i) (c .before .before .before .before .before .abort-owner .ensures .1 i) (now (c .before .before .before .before .before .before .before .before .before .before .before .before .before .before .before .before .before .before .before .before .args .pool)))
+returns-2 c =
+    let k = c .before .before .before .before .before .before .before .before in
+    let j = k .before .before in
+    let s = lent j in
+    let did = c .before .before .before .before .before .abort-owner .ensures in
+    rw (went k) (record { reply = c .done .ensures; lent = λ i. lostNow s (did .0 i) (did .1 i) (s .lost .pool) })
 
 pub ventarico-abort-spec : {M : Type 1} → statement M
 ventarico-abort-spec =

@@ -1,17 +1,37 @@
 -- `ventarico_begin` keeps its promise: refused as `judgeBegin` says, else done as `begun` says.
-use Rattle.ventarico.proofs.Laws.{told-refused, told-done}
-use Rattle.sound.proofs.Laws.{sound-shaped}
-use Rattle.rules.specs.Lent.{lentOf}
+use Rattle.rules.specs.Lent.{Lent, lentOf}
 use denote.Ref.{now}
-use mathlib.Core.Path.{sym, _∙_}
+use Rattle.rules.specs.declared.Verdict.{Verdict}
+use Rattle.rules.specs.declared.Verdict.the-variants.{Go, Refuse}
+use mathlib.Core.Path.{_≡_, refl, sym, _∙_}
 use native.Mathlib.Omega.{arith}
-use mathlib.Core.List.{[]}
-use Rattle.rules.specs.Calls.{doneWith, judgeBegin, beginCall}
-use Rattle.rules.specs.Steps.{begun}
+use Rattle.rules.specs.Calls.{judgeBegin, beginCall}
+use Rattle.rules.specs.Steps.{lostNow, begun}
+use Rattle.sound.proofs.Laws.{sound-shaped}
 use Rattle.ventarico.proofs.Went.{begin-went}
 use borrow.Author.Needs.{needs}
 use Rattle.ventarico.proofs.door.begin_call.ventarico_begin.Statement.{statement}
 use Rattle.ventarico.proofs.door.begin_call.ventarico_begin.Tie as tie
+
+-- the door's start, from where the judge has answered
+abbrev start : tie.After-judge-begin → tie.Start
+start j = j .before .before .before .before .before .before .before .before .before
+
+-- the lent bytes at entry
+abbrev lent : tie.After-judge-begin → Lent
+lent j =
+    let a = start j .args in
+    lentOf (now (a .fixed)) (now (a .marks)) (now (a .log)) (now (a .stored)) (now (a .tables)) (now (a .online)) (now (a .pool))
+
+-- what the rules say there, and so the judge: a refusal, or go
+abbrev word : tie.After-judge-begin → Verdict
+word j = let a = start j .args in judgeBegin (lent j) (a .number)
+
+refused : (k : tie.After-v) → word (k .before .before) ≡ Refuse (k .v .given .0 .0)
+refused k = sym (k .before .before .judge-begin .ensures) ∙ k .v .given .1
+
+went : (k : tie.After-enum-told) → word (k .before .before) ≡ Go
+went k = sym (k .before .before .judge-begin .ensures) ∙ k .enum-told .given .1
 
 judge-begin-requires : tie.Need-judge-begin-requires
 judge-begin-requires c κs = search needs
@@ -25,8 +45,14 @@ refused-requires c κs = search needs
 enum-told : tie.Need-enum-told
 enum-told c = search needs
 
+-- what the step asks for, by the tests that it passed
 begin-requires : tie.Need-begin-requires
-begin-requires c κs = (omega (arith, (sound-shaped (lentOf (now (c .before .before .before .before .before .before .before .before .before .before .before .before .args .fixed)) (now (c .before .before .before .before .before .before .before .before .before .before .before .before .args .marks)) (now (c .before .before .before .before .before .before .before .before .before .before .before .before .args .log)) (now (c .before .before .before .before .before .before .before .before .before .before .before .before .args .stored)) (now (c .before .before .before .before .before .before .before .before .before .before .before .before .args .tables)) (now (c .before .before .before .before .before .before .before .before .before .before .before .before .args .online)) (now (c .before .before .before .before .before .before .before .before .before .before .before .before .args .pool))) (begin-went (lentOf (now (c .before .before .before .before .before .before .before .before .before .before .before .before .args .fixed)) (now (c .before .before .before .before .before .before .before .before .before .before .before .before .args .marks)) (now (c .before .before .before .before .before .before .before .before .before .before .before .before .args .log)) (now (c .before .before .before .before .before .before .before .before .before .before .before .before .args .stored)) (now (c .before .before .before .before .before .before .before .before .before .before .before .before .args .tables)) (now (c .before .before .before .before .before .before .before .before .before .before .before .before .args .online)) (now (c .before .before .before .before .before .before .before .before .before .before .before .before .args .pool))) (c .before .before .before .before .before .before .before .before .before .before .before .before .args .number) (sym (c .before .before .before .judge-begin .ensures) ∙ c .before .enum-told .given .1) .0))), omega (arith, (sound-shaped (lentOf (now (c .before .before .before .before .before .before .before .before .before .before .before .before .args .fixed)) (now (c .before .before .before .before .before .before .before .before .before .before .before .before .args .marks)) (now (c .before .before .before .before .before .before .before .before .before .before .before .before .args .log)) (now (c .before .before .before .before .before .before .before .before .before .before .before .before .args .stored)) (now (c .before .before .before .before .before .before .before .before .before .before .before .before .args .tables)) (now (c .before .before .before .before .before .before .before .before .before .before .before .before .args .online)) (now (c .before .before .before .before .before .before .before .before .before .before .before .before .args .pool))) (begin-went (lentOf (now (c .before .before .before .before .before .before .before .before .before .before .before .before .args .fixed)) (now (c .before .before .before .before .before .before .before .before .before .before .before .before .args .marks)) (now (c .before .before .before .before .before .before .before .before .before .before .before .before .args .log)) (now (c .before .before .before .before .before .before .before .before .before .before .before .before .args .stored)) (now (c .before .before .before .before .before .before .before .before .before .before .before .before .args .tables)) (now (c .before .before .before .before .before .before .before .before .before .before .before .before .args .online)) (now (c .before .before .before .before .before .before .before .before .before .before .before .before .args .pool))) (c .before .before .before .before .before .before .before .before .before .before .before .before .args .number) (sym (c .before .before .before .judge-begin .ensures) ∙ c .before .enum-told .given .1) .0))), begin-went (lentOf (now (c .before .before .before .before .before .before .before .before .before .before .before .before .args .fixed)) (now (c .before .before .before .before .before .before .before .before .before .before .before .before .args .marks)) (now (c .before .before .before .before .before .before .before .before .before .before .before .before .args .log)) (now (c .before .before .before .before .before .before .before .before .before .before .before .before .args .stored)) (now (c .before .before .before .before .before .before .before .before .before .before .before .before .args .tables)) (now (c .before .before .before .before .before .before .before .before .before .before .before .before .args .online)) (now (c .before .before .before .before .before .before .before .before .before .before .before .before .args .pool))) (c .before .before .before .before .before .before .before .before .before .before .before .before .args .number) (sym (c .before .before .before .judge-begin .ensures) ∙ c .before .enum-told .given .1) .1, begin-went (lentOf (now (c .before .before .before .before .before .before .before .before .before .before .before .before .args .fixed)) (now (c .before .before .before .before .before .before .before .before .before .before .before .before .args .marks)) (now (c .before .before .before .before .before .before .before .before .before .before .before .before .args .log)) (now (c .before .before .before .before .before .before .before .before .before .before .before .before .args .stored)) (now (c .before .before .before .before .before .before .before .before .before .before .before .before .args .tables)) (now (c .before .before .before .before .before .before .before .before .before .before .before .before .args .online)) (now (c .before .before .before .before .before .before .before .before .before .before .before .before .args .pool))) (c .before .before .before .before .before .before .before .before .before .before .before .before .args .number) (sym (c .before .before .before .judge-begin .ensures) ∙ c .before .enum-told .given .1) .2)
+begin-requires c κs =
+    let k = c .before in
+    let j = k .before .before in
+    let w = begin-went (lent j) (start j .args .number) (went k) in
+    let shape = sound-shaped (lent j) (w .0) in
+    (omega arith, omega arith, w .1, w .2)
 
 done-requires : tie.Need-done-requires
 done-requires c κs = search needs
@@ -34,16 +60,26 @@ done-requires c κs = search needs
 same-length : tie.Need-same-length
 same-length c = search needs
 
+-- a refusal: its reply, and every byte as it was
 returns : tie.Need-returns
 unfolding beginCall
-returns c = told-refused (judgeBegin (lentOf (now (c .before .before .before .before .before .before .before .before .before .before .before .before .before .args .fixed)) (now (c .before .before .before .before .before .before .before .before .before .before .before .before .before .args .marks)) (now (c .before .before .before .before .before .before .before .before .before .before .before .before .before .args .log)) (now (c .before .before .before .before .before .before .before .before .before .before .before .before .before .args .stored)) (now (c .before .before .before .before .before .before .before .before .before .before .before .before .before .args .tables)) (now (c .before .before .before .before .before .before .before .before .before .before .before .before .before .args .online)) (now (c .before .before .before .before .before .before .before .before .before .before .before .before .before .args .pool))) (c .before .before .before .before .before .before .before .before .before .before .before .before .before .args .number)) (lentOf (now (c .before .before .before .before .before .before .before .before .before .before .before .before .before .args .fixed)) (now (c .before .before .before .before .before .before .before .before .before .before .before .before .before .args .marks)) (now (c .before .before .before .before .before .before .before .before .before .before .before .before .before .args .log)) (now (c .before .before .before .before .before .before .before .before .before .before .before .before .before .args .stored)) (now (c .before .before .before .before .before .before .before .before .before .before .before .before .before .args .tables)) (now (c .before .before .before .before .before .before .before .before .before .before .before .before .before .args .online)) (now (c .before .before .before .before .before .before .before .before .before .before .before .before .before .args .pool))) [] (doneWith (begun (lentOf (now (c .before .before .before .before .before .before .before .before .before .before .before .before .before .args .fixed)) (now (c .before .before .before .before .before .before .before .before .before .before .before .before .before .args .marks)) (now (c .before .before .before .before .before .before .before .before .before .before .before .before .before .args .log)) (now (c .before .before .before .before .before .before .before .before .before .before .before .before .before .args .stored)) (now (c .before .before .before .before .before .before .before .before .before .before .before .before .before .args .tables)) (now (c .before .before .before .before .before .before .before .before .before .before .before .before .before .args .online)) (now (c .before .before .before .before .before .before .before .before .before .before .before .before .before .args .pool))) (c .before .before .before .before .before .before .before .before .before .before .before .before .before .args .number)) []) (c .before .before .v .given .0 .0) _ (sym (c .before .before .before .before .judge-begin .ensures) ∙ c .before .before .v .given .1) (c .refused .ensures)
+returns c = rw (refused (c .before .before)) (record { reply = c .refused .ensures; lent = refl })
 
 same-length-2 : tie.Need-same-length-2
 same-length-2 c = search needs
 
+-- go: what the step counted and left
 returns-2 : tie.Need-returns-2
 unfolding beginCall begun
-returns-2 c = told-done (judgeBegin (lentOf (now (c .before .before .before .before .before .before .before .before .before .before .before .before .before .before .before .before .args .fixed)) (now (c .before .before .before .before .before .before .before .before .before .before .before .before .before .before .before .before .args .marks)) (now (c .before .before .before .before .before .before .before .before .before .before .before .before .before .before .before .before .args .log)) (now (c .before .before .before .before .before .before .before .before .before .before .before .before .before .before .before .before .args .stored)) (now (c .before .before .before .before .before .before .before .before .before .before .before .before .before .before .before .before .args .tables)) (now (c .before .before .before .before .before .before .before .before .before .before .before .before .before .before .before .before .args .online)) (now (c .before .before .before .before .before .before .before .before .before .before .before .before .before .before .before .before .args .pool))) (c .before .before .before .before .before .before .before .before .before .before .before .before .before .before .before .before .args .number)) (lentOf (now (c .before .before .before .before .before .before .before .before .before .before .before .before .before .before .before .before .args .fixed)) (now (c .before .before .before .before .before .before .before .before .before .before .before .before .before .before .before .before .args .marks)) (now (c .before .before .before .before .before .before .before .before .before .before .before .before .before .before .before .before .args .log)) (now (c .before .before .before .before .before .before .before .before .before .before .before .before .before .before .before .before .args .stored)) (now (c .before .before .before .before .before .before .before .before .before .before .before .before .before .before .before .before .args .tables)) (now (c .before .before .before .before .before .before .before .before .before .before .before .before .before .before .before .before .args .online)) (now (c .before .before .before .before .before .before .before .before .before .before .before .before .before .before .before .before .args .pool))) [] [] (begun (lentOf (now (c .before .before .before .before .before .before .before .before .before .before .before .before .before .before .before .before .args .fixed)) (now (c .before .before .before .before .before .before .before .before .before .before .before .before .before .before .before .before .args .marks)) (now (c .before .before .before .before .before .before .before .before .before .before .before .before .before .before .before .before .args .log)) (now (c .before .before .before .before .before .before .before .before .before .before .before .before .before .before .before .before .args .stored)) (now (c .before .before .before .before .before .before .before .before .before .before .before .before .before .before .before .before .args .tables)) (now (c .before .before .before .before .before .before .before .before .before .before .before .before .before .before .before .before .args .online)) (now (c .before .before .before .before .before .before .before .before .before .before .before .before .before .before .before .before .args .pool))) (c .before .before .before .before .before .before .before .before .before .before .before .before .before .before .before .before .args .number)) _ _ (sym (c .before .before .before .before .before .before .before .judge-begin .ensures) ∙ c .before .before .before .before .before .enum-told .given .1) (c .done .ensures) (λ i. lentOf (now (c .before .before .before .before .before .before .before .before .before .before .before .before .before .before .before .before .args .fixed)) (now (c .before .before .before .before .before .before .before .before .before .before .before .before .before .before .before .before .args .marks)) (now (c .before .before .before .before .before .before .before .before .before .before .before .before .before .before .before .before .args .log)) (now (c .before .before .before .before .before .before .before .before .before .before .before .before .before .before .before .before .args .stored)) (c .before .before .before .begin .ensures i) (now (c .before .before .before .before .before .before .before .before .before .before .before .before .before .before .before .before .args .online)) (now (c .before .before .before .before .before .before .before .before .before .before .before .before .before .before .before .before .args .pool)))
+returns-2 c =
+    let k = c .before .before .before .before .before in
+    let j = k .before .before in
+    let s = lent j in
+    rw (went k)
+    (record {
+      reply = c .done .ensures;
+      lent = λ i. lostNow s (c .before .before .before .begin .ensures i) (s .lost .online) (s .lost .pool);
+    })
 
 pub ventarico-begin-spec : {M : Type 1} → statement M
 ventarico-begin-spec =

@@ -1,17 +1,36 @@
--- `ventarico_checkpoint` keeps its promise: refused as `judgeCheckpoint` says, else done as `its step` says.
-use Rattle.ventarico.proofs.Laws.{told-refused, told-done}
-use Rattle.ventarico.specs.Said.{doneAs}
-use Rattle.sound.proofs.Laws.{sound-shaped, sound-logged}
-use Rattle.rules.specs.Lent.{lentOf}
+-- `ventarico_checkpoint` keeps its promise: refused as `judgeCheckpoint` says, else done as `checkpointed` says.
+use Rattle.rules.specs.Lent.{Lent, lentOf}
 use denote.Ref.{now}
-use mathlib.Core.Path.{sym, _∙_}
-use mathlib.Core.List.{[]}
-use Rattle.rules.specs.Calls.{doneWith, judgeCheckpoint, checkpointCall}
+use Rattle.rules.specs.declared.Verdict.{Verdict}
+use Rattle.rules.specs.declared.Verdict.the-variants.{Go, Refuse}
+use mathlib.Core.Path.{_≡_, refl, sym, _∙_}
+use Rattle.rules.specs.Calls.{judgeCheckpoint, checkpointCall}
 use Rattle.rules.specs.Steps.{checkpointed}
+use Rattle.sound.proofs.Laws.{sound-shaped, sound-logged}
 use Rattle.ventarico.proofs.Went.{checkpoint-went}
 use borrow.Author.Needs.{needs}
 use Rattle.ventarico.proofs.door.checkpoint_call.ventarico_checkpoint.Statement.{statement}
 use Rattle.ventarico.proofs.door.checkpoint_call.ventarico_checkpoint.Tie as tie
+
+-- the door's start, from where the judge has answered
+abbrev start : tie.After-judge-checkpoint → tie.Start
+start j = j .before .before .before .before .before .before .before .before .before .before .before .before .before
+
+-- the lent bytes at entry
+abbrev lent : tie.After-judge-checkpoint → Lent
+lent j =
+    let a = start j .args in
+    lentOf (now (a .fixed)) (now (a .marks)) (now (a .log)) (now (a .stored)) (now (a .tables)) (now (a .online)) (now (a .pool))
+
+-- what the rules say there, and so the judge: a refusal, or go
+abbrev word : tie.After-judge-checkpoint → Verdict
+word j = let a = start j .args in judgeCheckpoint (lent j) (a .min-del) (a .max-age)
+
+refused : (k : tie.After-v) → word (k .before .before) ≡ Refuse (k .v .given .0 .0)
+refused k = sym (k .before .before .judge-checkpoint .ensures) ∙ k .v .given .1
+
+went : (k : tie.After-enum-told) → word (k .before .before) ≡ Go
+went k = sym (k .before .before .judge-checkpoint .ensures) ∙ k .enum-told .given .1
 
 judge-checkpoint-requires : tie.Need-judge-checkpoint-requires
 judge-checkpoint-requires c κs = search needs
@@ -25,8 +44,13 @@ refused-requires c κs = search needs
 enum-told : tie.Need-enum-told
 enum-told c = search needs
 
+-- what the step asks for, by the tests that it passed
 checkpoint-requires : tie.Need-checkpoint-requires
-checkpoint-requires c κs = (sound-shaped (lentOf (now (c .before .before .before .before .before .before .before .before .before .before .before .before .before .before .before .before .before .before .before .before .args .fixed)) (now (c .before .before .before .before .before .before .before .before .before .before .before .before .before .before .before .before .before .before .before .before .args .marks)) (now (c .before .before .before .before .before .before .before .before .before .before .before .before .before .before .before .before .before .before .before .before .args .log)) (now (c .before .before .before .before .before .before .before .before .before .before .before .before .before .before .before .before .before .before .before .before .args .stored)) (now (c .before .before .before .before .before .before .before .before .before .before .before .before .before .before .before .before .before .before .before .before .args .tables)) (now (c .before .before .before .before .before .before .before .before .before .before .before .before .before .before .before .before .before .before .before .before .args .online)) (now (c .before .before .before .before .before .before .before .before .before .before .before .before .before .before .before .before .before .before .before .before .args .pool))) (checkpoint-went (lentOf (now (c .before .before .before .before .before .before .before .before .before .before .before .before .before .before .before .before .before .before .before .before .args .fixed)) (now (c .before .before .before .before .before .before .before .before .before .before .before .before .before .before .before .before .before .before .before .before .args .marks)) (now (c .before .before .before .before .before .before .before .before .before .before .before .before .before .before .before .before .before .before .before .before .args .log)) (now (c .before .before .before .before .before .before .before .before .before .before .before .before .before .before .before .before .before .before .before .before .args .stored)) (now (c .before .before .before .before .before .before .before .before .before .before .before .before .before .before .before .before .before .before .before .before .args .tables)) (now (c .before .before .before .before .before .before .before .before .before .before .before .before .before .before .before .before .before .before .before .before .args .online)) (now (c .before .before .before .before .before .before .before .before .before .before .before .before .before .before .before .before .before .before .before .before .args .pool))) (c .before .before .before .before .before .before .before .before .before .before .before .before .before .before .before .before .before .before .before .before .args .min-del) (c .before .before .before .before .before .before .before .before .before .before .before .before .before .before .before .before .before .before .before .before .args .max-age) (sym (c .before .before .before .before .before .before .before .judge-checkpoint .ensures) ∙ c .before .before .before .before .before .enum-told .given .1)), sound-logged (lentOf (now (c .before .before .before .before .before .before .before .before .before .before .before .before .before .before .before .before .before .before .before .before .args .fixed)) (now (c .before .before .before .before .before .before .before .before .before .before .before .before .before .before .before .before .before .before .before .before .args .marks)) (now (c .before .before .before .before .before .before .before .before .before .before .before .before .before .before .before .before .before .before .before .before .args .log)) (now (c .before .before .before .before .before .before .before .before .before .before .before .before .before .before .before .before .before .before .before .before .args .stored)) (now (c .before .before .before .before .before .before .before .before .before .before .before .before .before .before .before .before .before .before .before .before .args .tables)) (now (c .before .before .before .before .before .before .before .before .before .before .before .before .before .before .before .before .before .before .before .before .args .online)) (now (c .before .before .before .before .before .before .before .before .before .before .before .before .before .before .before .before .before .before .before .before .args .pool))) (checkpoint-went (lentOf (now (c .before .before .before .before .before .before .before .before .before .before .before .before .before .before .before .before .before .before .before .before .args .fixed)) (now (c .before .before .before .before .before .before .before .before .before .before .before .before .before .before .before .before .before .before .before .before .args .marks)) (now (c .before .before .before .before .before .before .before .before .before .before .before .before .before .before .before .before .before .before .before .before .args .log)) (now (c .before .before .before .before .before .before .before .before .before .before .before .before .before .before .before .before .before .before .before .before .args .stored)) (now (c .before .before .before .before .before .before .before .before .before .before .before .before .before .before .before .before .before .before .before .before .args .tables)) (now (c .before .before .before .before .before .before .before .before .before .before .before .before .before .before .before .before .before .before .before .before .args .online)) (now (c .before .before .before .before .before .before .before .before .before .before .before .before .before .before .before .before .before .before .before .before .args .pool))) (c .before .before .before .before .before .before .before .before .before .before .before .before .before .before .before .before .before .before .before .before .args .min-del) (c .before .before .before .before .before .before .before .before .before .before .before .before .before .before .before .before .before .before .before .before .args .max-age) (sym (c .before .before .before .before .before .before .before .judge-checkpoint .ensures) ∙ c .before .before .before .before .before .enum-told .given .1)))
+checkpoint-requires c κs =
+    let k = c .before .before .before .before .before in
+    let j = k .before .before in
+    let w = checkpoint-went (lent j) (start j .args .min-del) (start j .args .max-age) (went k) in
+    (sound-shaped (lent j) w, sound-logged (lent j) w)
 
 done-requires : tie.Need-done-requires
 done-requires c κs = search needs
@@ -46,9 +70,10 @@ same-length-4 c = search needs
 same-length-5 : tie.Need-same-length-5
 same-length-5 c = search needs
 
+-- a refusal: its reply, and every byte as it was
 returns : tie.Need-returns
 unfolding checkpointCall
-returns c = told-refused (judgeCheckpoint (lentOf (now (c .before .before .before .before .before .before .before .before .before .before .before .before .before .before .before .before .before .args .fixed)) (now (c .before .before .before .before .before .before .before .before .before .before .before .before .before .before .before .before .before .args .marks)) (now (c .before .before .before .before .before .before .before .before .before .before .before .before .before .before .before .before .before .args .log)) (now (c .before .before .before .before .before .before .before .before .before .before .before .before .before .before .before .before .before .args .stored)) (now (c .before .before .before .before .before .before .before .before .before .before .before .before .before .before .before .before .before .args .tables)) (now (c .before .before .before .before .before .before .before .before .before .before .before .before .before .before .before .before .before .args .online)) (now (c .before .before .before .before .before .before .before .before .before .before .before .before .before .before .before .before .before .args .pool))) (c .before .before .before .before .before .before .before .before .before .before .before .before .before .before .before .before .before .args .min-del) (c .before .before .before .before .before .before .before .before .before .before .before .before .before .before .before .before .before .args .max-age)) (lentOf (now (c .before .before .before .before .before .before .before .before .before .before .before .before .before .before .before .before .before .args .fixed)) (now (c .before .before .before .before .before .before .before .before .before .before .before .before .before .before .before .before .before .args .marks)) (now (c .before .before .before .before .before .before .before .before .before .before .before .before .before .before .before .before .before .args .log)) (now (c .before .before .before .before .before .before .before .before .before .before .before .before .before .before .before .before .before .args .stored)) (now (c .before .before .before .before .before .before .before .before .before .before .before .before .before .before .before .before .before .args .tables)) (now (c .before .before .before .before .before .before .before .before .before .before .before .before .before .before .before .before .before .args .online)) (now (c .before .before .before .before .before .before .before .before .before .before .before .before .before .before .before .before .before .args .pool))) [] (doneWith (checkpointed (c .before .before .before .before .before .before .before .before .before .before .before .before .before .before .before .before .before .args .min-del) (c .before .before .before .before .before .before .before .before .before .before .before .before .before .before .before .before .before .args .max-age) (lentOf (now (c .before .before .before .before .before .before .before .before .before .before .before .before .before .before .before .before .before .args .fixed)) (now (c .before .before .before .before .before .before .before .before .before .before .before .before .before .before .before .before .before .args .marks)) (now (c .before .before .before .before .before .before .before .before .before .before .before .before .before .before .before .before .before .args .log)) (now (c .before .before .before .before .before .before .before .before .before .before .before .before .before .before .before .before .before .args .stored)) (now (c .before .before .before .before .before .before .before .before .before .before .before .before .before .before .before .before .before .args .tables)) (now (c .before .before .before .before .before .before .before .before .before .before .before .before .before .before .before .before .before .args .online)) (now (c .before .before .before .before .before .before .before .before .before .before .before .before .before .before .before .before .before .args .pool)))) []) (c .before .before .v .given .0 .0) _ (sym (c .before .before .before .before .judge-checkpoint .ensures) ∙ c .before .before .v .given .1) (c .refused .ensures)
+returns c = rw (refused (c .before .before)) (record { reply = c .refused .ensures; lent = refl })
 
 same-length-6 : tie.Need-same-length-6
 same-length-6 c = search needs
@@ -65,9 +90,13 @@ same-length-9 c = search needs
 same-length-10 : tie.Need-same-length-10
 same-length-10 c = search needs
 
+-- go: what the step counted and left
 returns-2 : tie.Need-returns-2
 unfolding checkpointCall checkpointed
-returns-2 c = told-done (judgeCheckpoint (lentOf (now (c .before .before .before .before .before .before .before .before .before .before .before .before .before .before .before .before .before .before .before .before .before .before .before .before .before .before .before .before .before .before .before .before .args .fixed)) (now (c .before .before .before .before .before .before .before .before .before .before .before .before .before .before .before .before .before .before .before .before .before .before .before .before .before .before .before .before .before .before .before .before .args .marks)) (now (c .before .before .before .before .before .before .before .before .before .before .before .before .before .before .before .before .before .before .before .before .before .before .before .before .before .before .before .before .before .before .before .before .args .log)) (now (c .before .before .before .before .before .before .before .before .before .before .before .before .before .before .before .before .before .before .before .before .before .before .before .before .before .before .before .before .before .before .before .before .args .stored)) (now (c .before .before .before .before .before .before .before .before .before .before .before .before .before .before .before .before .before .before .before .before .before .before .before .before .before .before .before .before .before .before .before .before .args .tables)) (now (c .before .before .before .before .before .before .before .before .before .before .before .before .before .before .before .before .before .before .before .before .before .before .before .before .before .before .before .before .before .before .before .before .args .online)) (now (c .before .before .before .before .before .before .before .before .before .before .before .before .before .before .before .before .before .before .before .before .before .before .before .before .before .before .before .before .before .before .before .before .args .pool))) (c .before .before .before .before .before .before .before .before .before .before .before .before .before .before .before .before .before .before .before .before .before .before .before .before .before .before .before .before .before .before .before .before .args .min-del) (c .before .before .before .before .before .before .before .before .before .before .before .before .before .before .before .before .before .before .before .before .before .before .before .before .before .before .before .before .before .before .before .before .args .max-age)) (lentOf (now (c .before .before .before .before .before .before .before .before .before .before .before .before .before .before .before .before .before .before .before .before .before .before .before .before .before .before .before .before .before .before .before .before .args .fixed)) (now (c .before .before .before .before .before .before .before .before .before .before .before .before .before .before .before .before .before .before .before .before .before .before .before .before .before .before .before .before .before .before .before .before .args .marks)) (now (c .before .before .before .before .before .before .before .before .before .before .before .before .before .before .before .before .before .before .before .before .before .before .before .before .before .before .before .before .before .before .before .before .args .log)) (now (c .before .before .before .before .before .before .before .before .before .before .before .before .before .before .before .before .before .before .before .before .before .before .before .before .before .before .before .before .before .before .before .before .args .stored)) (now (c .before .before .before .before .before .before .before .before .before .before .before .before .before .before .before .before .before .before .before .before .before .before .before .before .before .before .before .before .before .before .before .before .args .tables)) (now (c .before .before .before .before .before .before .before .before .before .before .before .before .before .before .before .before .before .before .before .before .before .before .before .before .before .before .before .before .before .before .before .before .args .online)) (now (c .before .before .before .before .before .before .before .before .before .before .before .before .before .before .before .before .before .before .before .before .before .before .before .before .before .before .before .before .before .before .before .before .args .pool))) [] [] (checkpointed (c .before .before .before .before .before .before .before .before .before .before .before .before .before .before .before .before .before .before .before .before .before .before .before .before .before .before .before .before .before .before .before .before .args .min-del) (c .before .before .before .before .before .before .before .before .before .before .before .before .before .before .before .before .before .before .before .before .before .before .before .before .before .before .before .before .before .before .before .before .args .max-age) (lentOf (now (c .before .before .before .before .before .before .before .before .before .before .before .before .before .before .before .before .before .before .before .before .before .before .before .before .before .before .before .before .before .before .before .before .args .fixed)) (now (c .before .before .before .before .before .before .before .before .before .before .before .before .before .before .before .before .before .before .before .before .before .before .before .before .before .before .before .before .before .before .before .before .args .marks)) (now (c .before .before .before .before .before .before .before .before .before .before .before .before .before .before .before .before .before .before .before .before .before .before .before .before .before .before .before .before .before .before .before .before .args .log)) (now (c .before .before .before .before .before .before .before .before .before .before .before .before .before .before .before .before .before .before .before .before .before .before .before .before .before .before .before .before .before .before .before .before .args .stored)) (now (c .before .before .before .before .before .before .before .before .before .before .before .before .before .before .before .before .before .before .before .before .before .before .before .before .before .before .before .before .before .before .before .before .args .tables)) (now (c .before .before .before .before .before .before .before .before .before .before .before .before .before .before .before .before .before .before .before .before .before .before .before .before .before .before .before .before .before .before .before .before .args .online)) (now (c .before .before .before .before .before .before .before .before .before .before .before .before .before .before .before .before .before .before .before .before .before .before .before .before .before .before .before .before .before .before .before .before .args .pool)))) _ _ (sym (c .before .before .before .before .before .before .before .before .before .before .before .before .before .before .before .before .before .before .before .judge-checkpoint .ensures) ∙ c .before .before .before .before .before .before .before .before .before .before .before .before .before .before .before .before .before .enum-told .given .1) (c .done .ensures ∙ (λ i. doneAs (c .before .before .before .before .before .before .before .before .before .before .before .checkpoint .ensures .0 i) (c .before .before .before .before .before .before .before .before .before .before .before .checkpoint .ensures .1 .0 i) 1)) (c .before .before .before .before .before .before .before .before .before .before .before .checkpoint .ensures .1 .1)
+returns-2 c =
+    let did = c .before .before .before .before .before .before .before .before .before .before .before .checkpoint .ensures in
+    rw (went (c .before .before .before .before .before .before .before .before .before .before .before .before .before .before .before .before .before))
+    (record { reply = rw (did .0, did .1 .0) at (c .done .ensures); lent = did .1 .1 })
 
 pub ventarico-checkpoint-spec : {M : Type 1} → statement M
 ventarico-checkpoint-spec =

@@ -1,18 +1,37 @@
 -- `ventarico_compact` keeps its promise: refused as `judgeCompact` says, else not due, or compacted.
-use Rattle.word.proofs.Tests.{so, not-so}
-use Rattle.ventarico.proofs.Laws.{told-refused, told-not-due, told-due}
-use Rattle.ventarico.specs.Said.{doneAs}
-use Rattle.sound.proofs.Laws.{sound-shaped}
-use Rattle.rules.specs.Lent.{lentOf}
+use Rattle.rules.specs.Lent.{Lent, lentOf}
 use denote.Ref.{now}
-use mathlib.Core.Path.{sym, _∙_}
-use mathlib.Core.List.{[]}
-use Rattle.rules.specs.Calls.{doneWith, dueOr, judgeCompact, compactCall}
-use Rattle.rules.specs.Steps.{compacted, due}
+use Rattle.rules.specs.declared.Verdict.{Verdict}
+use Rattle.rules.specs.declared.Verdict.the-variants.{Go, Refuse}
+use mathlib.Core.Path.{_≡_, refl, sym, _∙_}
+use Rattle.rules.specs.Calls.{judgeCompact, compactCall}
+use Rattle.rules.specs.Steps.{compactStep, compacted}
+use Rattle.sound.proofs.Laws.{sound-shaped}
 use Rattle.ventarico.proofs.Went.{compact-went}
+use Rattle.ventarico.proofs.Laws.{was-due, was-not-due}
 use borrow.Author.Needs.{needs}
 use Rattle.ventarico.proofs.door.compact_call.ventarico_compact.Statement.{statement}
 use Rattle.ventarico.proofs.door.compact_call.ventarico_compact.Tie as tie
+
+-- the door's start, from where the judge has answered
+abbrev start : tie.After-judge-compact → tie.Start
+start j = j .before .before .before .before .before .before .before .before .before .before .before .before
+
+-- the lent bytes at entry
+abbrev lent : tie.After-judge-compact → Lent
+lent j =
+    let a = start j .args in
+    lentOf (now (a .fixed)) (now (a .marks)) (now (a .log)) (now (a .stored)) (now (a .tables)) (now (a .online)) (now (a .pool))
+
+-- what the rules say there, and so the judge: a refusal, or go
+abbrev word : tie.After-judge-compact → Verdict
+word j = let a = start j .args in judgeCompact (lent j) (a .page) (a .min-del) (a .max-age)
+
+refused : (k : tie.After-v) → word (k .before .before) ≡ Refuse (k .v .given .0 .0)
+refused k = sym (k .before .before .judge-compact .ensures) ∙ k .v .given .1
+
+went : (k : tie.After-enum-told) → word (k .before .before) ≡ Go
+went k = sym (k .before .before .judge-compact .ensures) ∙ k .enum-told .given .1
 
 judge-compact-requires : tie.Need-judge-compact-requires
 judge-compact-requires c κs = search needs
@@ -26,8 +45,14 @@ refused-requires c κs = search needs
 enum-told : tie.Need-enum-told
 enum-told c = search needs
 
-is-due-requires : tie.Need-is-due-requires
-is-due-requires c κs = (sound-shaped (lentOf (now (c .before .before .before .before .before .before .before .before .before .before .before .before .before .before .before .before .before .before .args .fixed)) (now (c .before .before .before .before .before .before .before .before .before .before .before .before .before .before .before .before .before .before .args .marks)) (now (c .before .before .before .before .before .before .before .before .before .before .before .before .before .before .before .before .before .before .args .log)) (now (c .before .before .before .before .before .before .before .before .before .before .before .before .before .before .before .before .before .before .args .stored)) (now (c .before .before .before .before .before .before .before .before .before .before .before .before .before .before .before .before .before .before .args .tables)) (now (c .before .before .before .before .before .before .before .before .before .before .before .before .before .before .before .before .before .before .args .online)) (now (c .before .before .before .before .before .before .before .before .before .before .before .before .before .before .before .before .before .before .args .pool))) (compact-went (lentOf (now (c .before .before .before .before .before .before .before .before .before .before .before .before .before .before .before .before .before .before .args .fixed)) (now (c .before .before .before .before .before .before .before .before .before .before .before .before .before .before .before .before .before .before .args .marks)) (now (c .before .before .before .before .before .before .before .before .before .before .before .before .before .before .before .before .before .before .args .log)) (now (c .before .before .before .before .before .before .before .before .before .before .before .before .before .before .before .before .before .before .args .stored)) (now (c .before .before .before .before .before .before .before .before .before .before .before .before .before .before .before .before .before .before .args .tables)) (now (c .before .before .before .before .before .before .before .before .before .before .before .before .before .before .before .before .before .before .args .online)) (now (c .before .before .before .before .before .before .before .before .before .before .before .before .before .before .before .before .before .before .args .pool))) (c .before .before .before .before .before .before .before .before .before .before .before .before .before .before .before .before .before .before .args .page) (c .before .before .before .before .before .before .before .before .before .before .before .before .before .before .before .before .before .before .args .min-del) (c .before .before .before .before .before .before .before .before .before .before .before .before .before .before .before .before .before .before .args .max-age) (sym (c .before .before .before .before .before .before .judge-compact .ensures) ∙ c .before .before .before .before .enum-told .given .1) .0))
+-- what the step asks for, by the tests that it passed
+compact-step-requires : tie.Need-compact-step-requires
+compact-step-requires c κs =
+    let k = c .before .before .before .before in
+    let j = k .before .before in
+    let a = start j .args in
+    let w = compact-went (lent j) (a .page) (a .min-del) (a .max-age) (went k) in
+    (sound-shaped (lent j) (w .0), w .1)
 
 not-due-requires : tie.Need-not-due-requires
 not-due-requires c κs = search needs
@@ -44,12 +69,16 @@ same-length-3 c = search needs
 same-length-4 : tie.Need-same-length-4
 same-length-4 c = search needs
 
+-- nothing was written, so compact was not due
 returns : tie.Need-returns
-unfolding compactCall compacted
-returns c = told-not-due (judgeCompact (lentOf (now (c .before .before .before .before .before .before .before .before .before .before .before .before .before .before .before .before .before .before .before .before .before .args .fixed)) (now (c .before .before .before .before .before .before .before .before .before .before .before .before .before .before .before .before .before .before .before .before .before .args .marks)) (now (c .before .before .before .before .before .before .before .before .before .before .before .before .before .before .before .before .before .before .before .before .before .args .log)) (now (c .before .before .before .before .before .before .before .before .before .before .before .before .before .before .before .before .before .before .before .before .before .args .stored)) (now (c .before .before .before .before .before .before .before .before .before .before .before .before .before .before .before .before .before .before .before .before .before .args .tables)) (now (c .before .before .before .before .before .before .before .before .before .before .before .before .before .before .before .before .before .before .before .before .before .args .online)) (now (c .before .before .before .before .before .before .before .before .before .before .before .before .before .before .before .before .before .before .before .before .before .args .pool))) (c .before .before .before .before .before .before .before .before .before .before .before .before .before .before .before .before .before .before .before .before .before .args .page) (c .before .before .before .before .before .before .before .before .before .before .before .before .before .before .before .before .before .before .before .before .before .args .min-del) (c .before .before .before .before .before .before .before .before .before .before .before .before .before .before .before .before .before .before .before .before .before .args .max-age)) (lentOf (now (c .before .before .before .before .before .before .before .before .before .before .before .before .before .before .before .before .before .before .before .before .before .args .fixed)) (now (c .before .before .before .before .before .before .before .before .before .before .before .before .before .before .before .before .before .before .before .before .before .args .marks)) (now (c .before .before .before .before .before .before .before .before .before .before .before .before .before .before .before .before .before .before .before .before .before .args .log)) (now (c .before .before .before .before .before .before .before .before .before .before .before .before .before .before .before .before .before .before .before .before .before .args .stored)) (now (c .before .before .before .before .before .before .before .before .before .before .before .before .before .before .before .before .before .before .before .before .before .args .tables)) (now (c .before .before .before .before .before .before .before .before .before .before .before .before .before .before .before .before .before .before .before .before .before .args .online)) (now (c .before .before .before .before .before .before .before .before .before .before .before .before .before .before .before .before .before .before .before .before .before .args .pool))) (due (lentOf (now (c .before .before .before .before .before .before .before .before .before .before .before .before .before .before .before .before .before .before .before .before .before .args .fixed)) (now (c .before .before .before .before .before .before .before .before .before .before .before .before .before .before .before .before .before .before .before .before .before .args .marks)) (now (c .before .before .before .before .before .before .before .before .before .before .before .before .before .before .before .before .before .before .before .before .before .args .log)) (now (c .before .before .before .before .before .before .before .before .before .before .before .before .before .before .before .before .before .before .before .before .before .args .stored)) (now (c .before .before .before .before .before .before .before .before .before .before .before .before .before .before .before .before .before .before .before .before .before .args .tables)) (now (c .before .before .before .before .before .before .before .before .before .before .before .before .before .before .before .before .before .before .before .before .before .args .online)) (now (c .before .before .before .before .before .before .before .before .before .before .before .before .before .before .before .before .before .before .before .before .before .args .pool))) (c .before .before .before .before .before .before .before .before .before .before .before .before .before .before .before .before .before .before .before .before .before .args .page) (c .before .before .before .before .before .before .before .before .before .before .before .before .before .before .before .before .before .before .before .before .before .args .min-del) (c .before .before .before .before .before .before .before .before .before .before .before .before .before .before .before .before .before .before .before .before .before .args .max-age)) (doneWith (compacted (lentOf (now (c .before .before .before .before .before .before .before .before .before .before .before .before .before .before .before .before .before .before .before .before .before .args .fixed)) (now (c .before .before .before .before .before .before .before .before .before .before .before .before .before .before .before .before .before .before .before .before .before .args .marks)) (now (c .before .before .before .before .before .before .before .before .before .before .before .before .before .before .before .before .before .before .before .before .before .args .log)) (now (c .before .before .before .before .before .before .before .before .before .before .before .before .before .before .before .before .before .before .before .before .before .args .stored)) (now (c .before .before .before .before .before .before .before .before .before .before .before .before .before .before .before .before .before .before .before .before .before .args .tables)) (now (c .before .before .before .before .before .before .before .before .before .before .before .before .before .before .before .before .before .before .before .before .before .args .online)) (now (c .before .before .before .before .before .before .before .before .before .before .before .before .before .before .before .before .before .before .before .before .before .args .pool))) (c .before .before .before .before .before .before .before .before .before .before .before .before .before .before .before .before .before .before .before .before .before .args .page)) []) _ (sym (c .before .before .before .before .before .before .before .before .before .judge-compact .ensures) ∙ c .before .before .before .before .before .before .before .enum-told .given .1) (not-so _ (due (lentOf (now (c .before .before .before .before .before .before .before .before .before .before .before .before .before .before .before .before .before .before .before .before .before .args .fixed)) (now (c .before .before .before .before .before .before .before .before .before .before .before .before .before .before .before .before .before .before .before .before .before .args .marks)) (now (c .before .before .before .before .before .before .before .before .before .before .before .before .before .before .before .before .before .before .before .before .before .args .log)) (now (c .before .before .before .before .before .before .before .before .before .before .before .before .before .before .before .before .before .before .before .before .before .args .stored)) (now (c .before .before .before .before .before .before .before .before .before .before .before .before .before .before .before .before .before .before .before .before .before .args .tables)) (now (c .before .before .before .before .before .before .before .before .before .before .before .before .before .before .before .before .before .before .before .before .before .args .online)) (now (c .before .before .before .before .before .before .before .before .before .before .before .before .before .before .before .before .before .before .before .before .before .args .pool))) (c .before .before .before .before .before .before .before .before .before .before .before .before .before .before .before .before .before .before .before .before .before .args .page) (c .before .before .before .before .before .before .before .before .before .before .before .before .before .before .before .before .before .before .before .before .before .args .min-del) (c .before .before .before .before .before .before .before .before .before .before .before .before .before .before .before .before .before .before .before .before .before .args .max-age)) (c .before .before .is-due .ensures) (c .before .if1 .taken)) (c .not-due .ensures)
-
-compact-page-requires : tie.Need-compact-page-requires
-compact-page-requires c κs = ((sound-shaped (lentOf (now (c .before .before .before .before .before .before .before .before .before .before .before .before .before .before .before .before .before .before .before .before .before .before .before .before .args .fixed)) (now (c .before .before .before .before .before .before .before .before .before .before .before .before .before .before .before .before .before .before .before .before .before .before .before .before .args .marks)) (now (c .before .before .before .before .before .before .before .before .before .before .before .before .before .before .before .before .before .before .before .before .before .before .before .before .args .log)) (now (c .before .before .before .before .before .before .before .before .before .before .before .before .before .before .before .before .before .before .before .before .before .before .before .before .args .stored)) (now (c .before .before .before .before .before .before .before .before .before .before .before .before .before .before .before .before .before .before .before .before .before .before .before .before .args .tables)) (now (c .before .before .before .before .before .before .before .before .before .before .before .before .before .before .before .before .before .before .before .before .before .before .before .before .args .online)) (now (c .before .before .before .before .before .before .before .before .before .before .before .before .before .before .before .before .before .before .before .before .before .before .before .before .args .pool))) (compact-went (lentOf (now (c .before .before .before .before .before .before .before .before .before .before .before .before .before .before .before .before .before .before .before .before .before .before .before .before .args .fixed)) (now (c .before .before .before .before .before .before .before .before .before .before .before .before .before .before .before .before .before .before .before .before .before .before .before .before .args .marks)) (now (c .before .before .before .before .before .before .before .before .before .before .before .before .before .before .before .before .before .before .before .before .before .before .before .before .args .log)) (now (c .before .before .before .before .before .before .before .before .before .before .before .before .before .before .before .before .before .before .before .before .before .before .before .before .args .stored)) (now (c .before .before .before .before .before .before .before .before .before .before .before .before .before .before .before .before .before .before .before .before .before .before .before .before .args .tables)) (now (c .before .before .before .before .before .before .before .before .before .before .before .before .before .before .before .before .before .before .before .before .before .before .before .before .args .online)) (now (c .before .before .before .before .before .before .before .before .before .before .before .before .before .before .before .before .before .before .before .before .before .before .before .before .args .pool))) (c .before .before .before .before .before .before .before .before .before .before .before .before .before .before .before .before .before .before .before .before .before .before .before .before .args .page) (c .before .before .before .before .before .before .before .before .before .before .before .before .before .before .before .before .before .before .before .before .before .before .before .before .args .min-del) (c .before .before .before .before .before .before .before .before .before .before .before .before .before .before .before .before .before .before .before .before .before .before .before .before .args .max-age) (sym (c .before .before .before .before .before .before .before .before .before .before .before .before .judge-compact .ensures) ∙ c .before .before .before .before .before .before .before .before .before .before .enum-told .given .1) .0)), compact-went (lentOf (now (c .before .before .before .before .before .before .before .before .before .before .before .before .before .before .before .before .before .before .before .before .before .before .before .before .args .fixed)) (now (c .before .before .before .before .before .before .before .before .before .before .before .before .before .before .before .before .before .before .before .before .before .before .before .before .args .marks)) (now (c .before .before .before .before .before .before .before .before .before .before .before .before .before .before .before .before .before .before .before .before .before .before .before .before .args .log)) (now (c .before .before .before .before .before .before .before .before .before .before .before .before .before .before .before .before .before .before .before .before .before .before .before .before .args .stored)) (now (c .before .before .before .before .before .before .before .before .before .before .before .before .before .before .before .before .before .before .before .before .before .before .before .before .args .tables)) (now (c .before .before .before .before .before .before .before .before .before .before .before .before .before .before .before .before .before .before .before .before .before .before .before .before .args .online)) (now (c .before .before .before .before .before .before .before .before .before .before .before .before .before .before .before .before .before .before .before .before .before .before .before .before .args .pool))) (c .before .before .before .before .before .before .before .before .before .before .before .before .before .before .before .before .before .before .before .before .before .before .before .before .args .page) (c .before .before .before .before .before .before .before .before .before .before .before .before .before .before .before .before .before .before .before .before .before .before .before .before .args .min-del) (c .before .before .before .before .before .before .before .before .before .before .before .before .before .before .before .before .before .before .before .before .before .before .before .before .args .max-age) (sym (c .before .before .before .before .before .before .before .before .before .before .before .before .judge-compact .ensures) ∙ c .before .before .before .before .before .before .before .before .before .before .enum-told .given .1) .1)
+unfolding compactCall compactStep
+returns c =
+    let k = c .before .before .before .before .before .before .before .before .before .before .before .before .before .before .before .before in
+    let j = k .before .before in
+    let a = start j .args in
+    let did = c .before .before .before .before .before .before .before .before .before .before .before .compact-step .ensures in
+    let undue = was-not-due (lent j) (a .page) (a .min-del) (a .max-age) _ (did .1 .0) (c .before .if1 .taken) in
+    rw (went k, undue) (record { reply = c .not-due .ensures; lent = rw undue at (did .1 .1) })
 
 done-requires : tie.Need-done-requires
 done-requires c κs = search needs
@@ -66,9 +95,10 @@ same-length-7 c = search needs
 same-length-8 : tie.Need-same-length-8
 same-length-8 c = search needs
 
+-- a refusal: its reply, and every byte as it was
 returns-2 : tie.Need-returns-2
-unfolding compactCall compacted
-returns-2 c = told-refused (judgeCompact (lentOf (now (c .before .before .before .before .before .before .before .before .before .before .before .before .before .before .before .before .args .fixed)) (now (c .before .before .before .before .before .before .before .before .before .before .before .before .before .before .before .before .args .marks)) (now (c .before .before .before .before .before .before .before .before .before .before .before .before .before .before .before .before .args .log)) (now (c .before .before .before .before .before .before .before .before .before .before .before .before .before .before .before .before .args .stored)) (now (c .before .before .before .before .before .before .before .before .before .before .before .before .before .before .before .before .args .tables)) (now (c .before .before .before .before .before .before .before .before .before .before .before .before .before .before .before .before .args .online)) (now (c .before .before .before .before .before .before .before .before .before .before .before .before .before .before .before .before .args .pool))) (c .before .before .before .before .before .before .before .before .before .before .before .before .before .before .before .before .args .page) (c .before .before .before .before .before .before .before .before .before .before .before .before .before .before .before .before .args .min-del) (c .before .before .before .before .before .before .before .before .before .before .before .before .before .before .before .before .args .max-age)) (lentOf (now (c .before .before .before .before .before .before .before .before .before .before .before .before .before .before .before .before .args .fixed)) (now (c .before .before .before .before .before .before .before .before .before .before .before .before .before .before .before .before .args .marks)) (now (c .before .before .before .before .before .before .before .before .before .before .before .before .before .before .before .before .args .log)) (now (c .before .before .before .before .before .before .before .before .before .before .before .before .before .before .before .before .args .stored)) (now (c .before .before .before .before .before .before .before .before .before .before .before .before .before .before .before .before .args .tables)) (now (c .before .before .before .before .before .before .before .before .before .before .before .before .before .before .before .before .args .online)) (now (c .before .before .before .before .before .before .before .before .before .before .before .before .before .before .before .before .args .pool))) [] (dueOr (due (lentOf (now (c .before .before .before .before .before .before .before .before .before .before .before .before .before .before .before .before .args .fixed)) (now (c .before .before .before .before .before .before .before .before .before .before .before .before .before .before .before .before .args .marks)) (now (c .before .before .before .before .before .before .before .before .before .before .before .before .before .before .before .before .args .log)) (now (c .before .before .before .before .before .before .before .before .before .before .before .before .before .before .before .before .args .stored)) (now (c .before .before .before .before .before .before .before .before .before .before .before .before .before .before .before .before .args .tables)) (now (c .before .before .before .before .before .before .before .before .before .before .before .before .before .before .before .before .args .online)) (now (c .before .before .before .before .before .before .before .before .before .before .before .before .before .before .before .before .args .pool))) (c .before .before .before .before .before .before .before .before .before .before .before .before .before .before .before .before .args .page) (c .before .before .before .before .before .before .before .before .before .before .before .before .before .before .before .before .args .min-del) (c .before .before .before .before .before .before .before .before .before .before .before .before .before .before .before .before .args .max-age)) (lentOf (now (c .before .before .before .before .before .before .before .before .before .before .before .before .before .before .before .before .args .fixed)) (now (c .before .before .before .before .before .before .before .before .before .before .before .before .before .before .before .before .args .marks)) (now (c .before .before .before .before .before .before .before .before .before .before .before .before .before .before .before .before .args .log)) (now (c .before .before .before .before .before .before .before .before .before .before .before .before .before .before .before .before .args .stored)) (now (c .before .before .before .before .before .before .before .before .before .before .before .before .before .before .before .before .args .tables)) (now (c .before .before .before .before .before .before .before .before .before .before .before .before .before .before .before .before .args .online)) (now (c .before .before .before .before .before .before .before .before .before .before .before .before .before .before .before .before .args .pool))) (doneWith (compacted (lentOf (now (c .before .before .before .before .before .before .before .before .before .before .before .before .before .before .before .before .args .fixed)) (now (c .before .before .before .before .before .before .before .before .before .before .before .before .before .before .before .before .args .marks)) (now (c .before .before .before .before .before .before .before .before .before .before .before .before .before .before .before .before .args .log)) (now (c .before .before .before .before .before .before .before .before .before .before .before .before .before .before .before .before .args .stored)) (now (c .before .before .before .before .before .before .before .before .before .before .before .before .before .before .before .before .args .tables)) (now (c .before .before .before .before .before .before .before .before .before .before .before .before .before .before .before .before .args .online)) (now (c .before .before .before .before .before .before .before .before .before .before .before .before .before .before .before .before .args .pool))) (c .before .before .before .before .before .before .before .before .before .before .before .before .before .before .before .before .args .page)) [])) (c .before .before .v .given .0 .0) _ (sym (c .before .before .before .before .judge-compact .ensures) ∙ c .before .before .v .given .1) (c .refused .ensures)
+unfolding compactCall
+returns-2 c = rw (refused (c .before .before)) (record { reply = c .refused .ensures; lent = refl })
 
 same-length-9 : tie.Need-same-length-9
 same-length-9 c = search needs
@@ -82,9 +112,18 @@ same-length-11 c = search needs
 same-length-12 : tie.Need-same-length-12
 same-length-12 c = search needs
 
+-- a page was written, so it was due
 returns-3 : tie.Need-returns-3
-unfolding compactCall compacted
-returns-3 c = told-due (judgeCompact (lentOf (now (c .before .before .before .before .before .before .before .before .before .before .before .before .before .before .before .before .before .before .before .before .before .before .before .before .before .before .before .before .before .before .before .before .before .before .args .fixed)) (now (c .before .before .before .before .before .before .before .before .before .before .before .before .before .before .before .before .before .before .before .before .before .before .before .before .before .before .before .before .before .before .before .before .before .before .args .marks)) (now (c .before .before .before .before .before .before .before .before .before .before .before .before .before .before .before .before .before .before .before .before .before .before .before .before .before .before .before .before .before .before .before .before .before .before .args .log)) (now (c .before .before .before .before .before .before .before .before .before .before .before .before .before .before .before .before .before .before .before .before .before .before .before .before .before .before .before .before .before .before .before .before .before .before .args .stored)) (now (c .before .before .before .before .before .before .before .before .before .before .before .before .before .before .before .before .before .before .before .before .before .before .before .before .before .before .before .before .before .before .before .before .before .before .args .tables)) (now (c .before .before .before .before .before .before .before .before .before .before .before .before .before .before .before .before .before .before .before .before .before .before .before .before .before .before .before .before .before .before .before .before .before .before .args .online)) (now (c .before .before .before .before .before .before .before .before .before .before .before .before .before .before .before .before .before .before .before .before .before .before .before .before .before .before .before .before .before .before .before .before .before .before .args .pool))) (c .before .before .before .before .before .before .before .before .before .before .before .before .before .before .before .before .before .before .before .before .before .before .before .before .before .before .before .before .before .before .before .before .before .before .args .page) (c .before .before .before .before .before .before .before .before .before .before .before .before .before .before .before .before .before .before .before .before .before .before .before .before .before .before .before .before .before .before .before .before .before .before .args .min-del) (c .before .before .before .before .before .before .before .before .before .before .before .before .before .before .before .before .before .before .before .before .before .before .before .before .before .before .before .before .before .before .before .before .before .before .args .max-age)) (lentOf (now (c .before .before .before .before .before .before .before .before .before .before .before .before .before .before .before .before .before .before .before .before .before .before .before .before .before .before .before .before .before .before .before .before .before .before .args .fixed)) (now (c .before .before .before .before .before .before .before .before .before .before .before .before .before .before .before .before .before .before .before .before .before .before .before .before .before .before .before .before .before .before .before .before .before .before .args .marks)) (now (c .before .before .before .before .before .before .before .before .before .before .before .before .before .before .before .before .before .before .before .before .before .before .before .before .before .before .before .before .before .before .before .before .before .before .args .log)) (now (c .before .before .before .before .before .before .before .before .before .before .before .before .before .before .before .before .before .before .before .before .before .before .before .before .before .before .before .before .before .before .before .before .before .before .args .stored)) (now (c .before .before .before .before .before .before .before .before .before .before .before .before .before .before .before .before .before .before .before .before .before .before .before .before .before .before .before .before .before .before .before .before .before .before .args .tables)) (now (c .before .before .before .before .before .before .before .before .before .before .before .before .before .before .before .before .before .before .before .before .before .before .before .before .before .before .before .before .before .before .before .before .before .before .args .online)) (now (c .before .before .before .before .before .before .before .before .before .before .before .before .before .before .before .before .before .before .before .before .before .before .before .before .before .before .before .before .before .before .before .before .before .before .args .pool))) (due (lentOf (now (c .before .before .before .before .before .before .before .before .before .before .before .before .before .before .before .before .before .before .before .before .before .before .before .before .before .before .before .before .before .before .before .before .before .before .args .fixed)) (now (c .before .before .before .before .before .before .before .before .before .before .before .before .before .before .before .before .before .before .before .before .before .before .before .before .before .before .before .before .before .before .before .before .before .before .args .marks)) (now (c .before .before .before .before .before .before .before .before .before .before .before .before .before .before .before .before .before .before .before .before .before .before .before .before .before .before .before .before .before .before .before .before .before .before .args .log)) (now (c .before .before .before .before .before .before .before .before .before .before .before .before .before .before .before .before .before .before .before .before .before .before .before .before .before .before .before .before .before .before .before .before .before .before .args .stored)) (now (c .before .before .before .before .before .before .before .before .before .before .before .before .before .before .before .before .before .before .before .before .before .before .before .before .before .before .before .before .before .before .before .before .before .before .args .tables)) (now (c .before .before .before .before .before .before .before .before .before .before .before .before .before .before .before .before .before .before .before .before .before .before .before .before .before .before .before .before .before .before .before .before .before .before .args .online)) (now (c .before .before .before .before .before .before .before .before .before .before .before .before .before .before .before .before .before .before .before .before .before .before .before .before .before .before .before .before .before .before .before .before .before .before .args .pool))) (c .before .before .before .before .before .before .before .before .before .before .before .before .before .before .before .before .before .before .before .before .before .before .before .before .before .before .before .before .before .before .before .before .before .before .args .page) (c .before .before .before .before .before .before .before .before .before .before .before .before .before .before .before .before .before .before .before .before .before .before .before .before .before .before .before .before .before .before .before .before .before .before .args .min-del) (c .before .before .before .before .before .before .before .before .before .before .before .before .before .before .before .before .before .before .before .before .before .before .before .before .before .before .before .before .before .before .before .before .before .before .args .max-age)) (compacted (lentOf (now (c .before .before .before .before .before .before .before .before .before .before .before .before .before .before .before .before .before .before .before .before .before .before .before .before .before .before .before .before .before .before .before .before .before .before .args .fixed)) (now (c .before .before .before .before .before .before .before .before .before .before .before .before .before .before .before .before .before .before .before .before .before .before .before .before .before .before .before .before .before .before .before .before .before .before .args .marks)) (now (c .before .before .before .before .before .before .before .before .before .before .before .before .before .before .before .before .before .before .before .before .before .before .before .before .before .before .before .before .before .before .before .before .before .before .args .log)) (now (c .before .before .before .before .before .before .before .before .before .before .before .before .before .before .before .before .before .before .before .before .before .before .before .before .before .before .before .before .before .before .before .before .before .before .args .stored)) (now (c .before .before .before .before .before .before .before .before .before .before .before .before .before .before .before .before .before .before .before .before .before .before .before .before .before .before .before .before .before .before .before .before .before .before .args .tables)) (now (c .before .before .before .before .before .before .before .before .before .before .before .before .before .before .before .before .before .before .before .before .before .before .before .before .before .before .before .before .before .before .before .before .before .before .args .online)) (now (c .before .before .before .before .before .before .before .before .before .before .before .before .before .before .before .before .before .before .before .before .before .before .before .before .before .before .before .before .before .before .before .before .before .before .args .pool))) (c .before .before .before .before .before .before .before .before .before .before .before .before .before .before .before .before .before .before .before .before .before .before .before .before .before .before .before .before .before .before .before .before .before .before .args .page)) _ _ (sym (c .before .before .before .before .before .before .before .before .before .before .before .before .before .before .before .before .before .before .before .before .before .before .judge-compact .ensures) ∙ c .before .before .before .before .before .before .before .before .before .before .before .before .before .before .before .before .before .before .before .before .enum-told .given .1) (so _ (due (lentOf (now (c .before .before .before .before .before .before .before .before .before .before .before .before .before .before .before .before .before .before .before .before .before .before .before .before .before .before .before .before .before .before .before .before .before .before .args .fixed)) (now (c .before .before .before .before .before .before .before .before .before .before .before .before .before .before .before .before .before .before .before .before .before .before .before .before .before .before .before .before .before .before .before .before .before .before .args .marks)) (now (c .before .before .before .before .before .before .before .before .before .before .before .before .before .before .before .before .before .before .before .before .before .before .before .before .before .before .before .before .before .before .before .before .before .before .args .log)) (now (c .before .before .before .before .before .before .before .before .before .before .before .before .before .before .before .before .before .before .before .before .before .before .before .before .before .before .before .before .before .before .before .before .before .before .args .stored)) (now (c .before .before .before .before .before .before .before .before .before .before .before .before .before .before .before .before .before .before .before .before .before .before .before .before .before .before .before .before .before .before .before .before .before .before .args .tables)) (now (c .before .before .before .before .before .before .before .before .before .before .before .before .before .before .before .before .before .before .before .before .before .before .before .before .before .before .before .before .before .before .before .before .before .before .args .online)) (now (c .before .before .before .before .before .before .before .before .before .before .before .before .before .before .before .before .before .before .before .before .before .before .before .before .before .before .before .before .before .before .before .before .before .before .args .pool))) (c .before .before .before .before .before .before .before .before .before .before .before .before .before .before .before .before .before .before .before .before .before .before .before .before .before .before .before .before .before .before .before .before .before .before .args .page) (c .before .before .before .before .before .before .before .before .before .before .before .before .before .before .before .before .before .before .before .before .before .before .before .before .before .before .before .before .before .before .before .before .before .before .args .min-del) (c .before .before .before .before .before .before .before .before .before .before .before .before .before .before .before .before .before .before .before .before .before .before .before .before .before .before .before .before .before .before .before .before .before .before .args .max-age)) (c .before .before .before .before .before .before .before .before .before .before .before .before .before .before .before .is-due .ensures) (c .before .before .before .before .before .before .before .before .before .before .before .before .before .before .if1 .left)) (c .done .ensures ∙ (λ i. doneAs (c .before .before .before .before .before .before .before .before .before .compact-page .ensures .0 i) (c .before .before .before .before .before .before .before .before .before .compact-page .ensures .1 .0 i) 0)) (c .before .before .before .before .before .before .before .before .before .compact-page .ensures .1 .1)
+unfolding compactCall compactStep compacted
+returns-3 c =
+    let k = c .before .before .before .before .before .before .before .before .before .before .before .before .before .before .before .before in
+    let j = k .before .before in
+    let a = start j .args in
+    let did = c .before .before .before .before .before .before .before .before .before .before .before .compact-step .ensures in
+    let is-due = was-due (lent j) (a .page) (a .min-del) (a .max-age) _ (did .1 .0) (c .before .if1 .left) in
+    let compacting = rw is-due at did in
+    rw (went k, is-due)
+    (record { reply = rw (compacting .0, compacting .1 .0) at (c .done .ensures); lent = compacting .1 .1 })
 
 pub ventarico-compact-spec : {M : Type 1} → statement M
 ventarico-compact-spec =
@@ -94,14 +133,13 @@ ventarico-compact-spec =
     enum-known-v
     refused-requires
     enum-told
-    is-due-requires
+    compact-step-requires
     not-due-requires
     same-length
     same-length-2
     same-length-3
     same-length-4
     returns
-    compact-page-requires
     done-requires
     same-length-5
     same-length-6

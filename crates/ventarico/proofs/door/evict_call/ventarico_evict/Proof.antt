@@ -1,21 +1,37 @@
 -- `ventarico_evict` keeps its promise: refused as `judgeEvict` says, else done as `evicted` says.
-use Rattle.ventarico.proofs.Laws.{told-refused, told-done}
-use Rattle.sound.proofs.Laws.{sound-shaped}
-use Rattle.rules.specs.Lent.{lentOf, entryAt, withOrder, frameOf, inFrame}
+use Rattle.rules.specs.Lent.{Lent, lentOf}
 use denote.Ref.{now}
-use mathlib.Core.Path.{ap, sym, _∙_}
+use Rattle.rules.specs.declared.Verdict.{Verdict}
+use Rattle.rules.specs.declared.Verdict.the-variants.{Go, Refuse}
+use mathlib.Core.Path.{_≡_, refl, sym, _∙_}
 use native.Mathlib.Omega.{arith}
-use Rattle.record.specs.Part.{part}
-use lib.ListN.{getD, set}
-use Rattle.order.specs.Order.{without}
-use Prim.Native.Nat.{ℕ, _%_}
-use mathlib.Core.List.{[]}
-use Rattle.rules.specs.Calls.{doneWith, judgeEvict, evictCall}
-use Rattle.rules.specs.Steps.{evicted}
+use Rattle.rules.specs.Calls.{judgeEvict, evictCall}
+use Rattle.rules.specs.Steps.{lostNow, evicted}
+use Rattle.sound.proofs.Laws.{sound-shaped}
 use Rattle.ventarico.proofs.Went.{evict-went}
 use borrow.Author.Needs.{needs}
 use Rattle.ventarico.proofs.door.evict_call.ventarico_evict.Statement.{statement}
 use Rattle.ventarico.proofs.door.evict_call.ventarico_evict.Tie as tie
+
+-- the door's start, from where the judge has answered
+abbrev start : tie.After-judge-evict → tie.Start
+start j = j .before .before .before .before .before .before .before .before .before
+
+-- the lent bytes at entry
+abbrev lent : tie.After-judge-evict → Lent
+lent j =
+    let a = start j .args in
+    lentOf (now (a .fixed)) (now (a .marks)) (now (a .log)) (now (a .stored)) (now (a .tables)) (now (a .online)) (now (a .pool))
+
+-- what the rules say there, and so the judge: a refusal, or go
+abbrev word : tie.After-judge-evict → Verdict
+word j = let a = start j .args in judgeEvict (lent j) (a .page)
+
+refused : (k : tie.After-v) → word (k .before .before) ≡ Refuse (k .v .given .0 .0)
+refused k = sym (k .before .before .judge-evict .ensures) ∙ k .v .given .1
+
+went : (k : tie.After-enum-told) → word (k .before .before) ≡ Go
+went k = sym (k .before .before .judge-evict .ensures) ∙ k .enum-told .given .1
 
 judge-evict-requires : tie.Need-judge-evict-requires
 judge-evict-requires c κs = search needs
@@ -30,10 +46,19 @@ enum-told : tie.Need-enum-told
 enum-told c = search needs
 
 params-of-requires : tie.Need-params-of-requires
-params-of-requires c κs = (sound-shaped (lentOf (now (c .before .before .before .before .before .before .before .before .before .before .before .args .fixed)) (now (c .before .before .before .before .before .before .before .before .before .before .before .args .marks)) (now (c .before .before .before .before .before .before .before .before .before .before .before .args .log)) (now (c .before .before .before .before .before .before .before .before .before .before .before .args .stored)) (now (c .before .before .before .before .before .before .before .before .before .before .before .args .tables)) (now (c .before .before .before .before .before .before .before .before .before .before .before .args .online)) (now (c .before .before .before .before .before .before .before .before .before .before .before .args .pool))) (evict-went (lentOf (now (c .before .before .before .before .before .before .before .before .before .before .before .args .fixed)) (now (c .before .before .before .before .before .before .before .before .before .before .before .args .marks)) (now (c .before .before .before .before .before .before .before .before .before .before .before .args .log)) (now (c .before .before .before .before .before .before .before .before .before .before .before .args .stored)) (now (c .before .before .before .before .before .before .before .before .before .before .before .args .tables)) (now (c .before .before .before .before .before .before .before .before .before .before .before .args .online)) (now (c .before .before .before .before .before .before .before .before .before .before .before .args .pool))) (c .before .before .before .before .before .before .before .before .before .before .before .args .page) (sym (c .before .before .judge-evict .ensures) ∙ c .enum-told .given .1) .0)) .sized .fixed
+params-of-requires c κs =
+    let j = c .before .before in
+    sound-shaped (lent j) (evict-went (lent j) (start j .args .page) (went c) .0) .sized .fixed
 
+-- what the step asks for, by the tests that it passed
 evict-requires : tie.Need-evict-requires
-evict-requires c κs = (omega (arith, (sound-shaped (lentOf (now (c .before .before .before .before .before .before .before .before .before .before .before .before .before .args .fixed)) (now (c .before .before .before .before .before .before .before .before .before .before .before .before .before .args .marks)) (now (c .before .before .before .before .before .before .before .before .before .before .before .before .before .args .log)) (now (c .before .before .before .before .before .before .before .before .before .before .before .before .before .args .stored)) (now (c .before .before .before .before .before .before .before .before .before .before .before .before .before .args .tables)) (now (c .before .before .before .before .before .before .before .before .before .before .before .before .before .args .online)) (now (c .before .before .before .before .before .before .before .before .before .before .before .before .before .args .pool))) (evict-went (lentOf (now (c .before .before .before .before .before .before .before .before .before .before .before .before .before .args .fixed)) (now (c .before .before .before .before .before .before .before .before .before .before .before .before .before .args .marks)) (now (c .before .before .before .before .before .before .before .before .before .before .before .before .before .args .log)) (now (c .before .before .before .before .before .before .before .before .before .before .before .before .before .args .stored)) (now (c .before .before .before .before .before .before .before .before .before .before .before .before .before .args .tables)) (now (c .before .before .before .before .before .before .before .before .before .before .before .before .before .args .online)) (now (c .before .before .before .before .before .before .before .before .before .before .before .before .before .args .pool))) (c .before .before .before .before .before .before .before .before .before .before .before .before .before .args .page) (sym (c .before .before .before .before .judge-evict .ensures) ∙ c .before .before .enum-told .given .1) .0)), c .before .params-of .ensures .2, evict-went (lentOf (now (c .before .before .before .before .before .before .before .before .before .before .before .before .before .args .fixed)) (now (c .before .before .before .before .before .before .before .before .before .before .before .before .before .args .marks)) (now (c .before .before .before .before .before .before .before .before .before .before .before .before .before .args .log)) (now (c .before .before .before .before .before .before .before .before .before .before .before .before .before .args .stored)) (now (c .before .before .before .before .before .before .before .before .before .before .before .before .before .args .tables)) (now (c .before .before .before .before .before .before .before .before .before .before .before .before .before .args .online)) (now (c .before .before .before .before .before .before .before .before .before .before .before .before .before .args .pool))) (c .before .before .before .before .before .before .before .before .before .before .before .before .before .args .page) (sym (c .before .before .before .before .judge-evict .ensures) ∙ c .before .before .enum-told .given .1) .1), omega (arith, (sound-shaped (lentOf (now (c .before .before .before .before .before .before .before .before .before .before .before .before .before .args .fixed)) (now (c .before .before .before .before .before .before .before .before .before .before .before .before .before .args .marks)) (now (c .before .before .before .before .before .before .before .before .before .before .before .before .before .args .log)) (now (c .before .before .before .before .before .before .before .before .before .before .before .before .before .args .stored)) (now (c .before .before .before .before .before .before .before .before .before .before .before .before .before .args .tables)) (now (c .before .before .before .before .before .before .before .before .before .before .before .before .before .args .online)) (now (c .before .before .before .before .before .before .before .before .before .before .before .before .before .args .pool))) (evict-went (lentOf (now (c .before .before .before .before .before .before .before .before .before .before .before .before .before .args .fixed)) (now (c .before .before .before .before .before .before .before .before .before .before .before .before .before .args .marks)) (now (c .before .before .before .before .before .before .before .before .before .before .before .before .before .args .log)) (now (c .before .before .before .before .before .before .before .before .before .before .before .before .before .args .stored)) (now (c .before .before .before .before .before .before .before .before .before .before .before .before .before .args .tables)) (now (c .before .before .before .before .before .before .before .before .before .before .before .before .before .args .online)) (now (c .before .before .before .before .before .before .before .before .before .before .before .before .before .args .pool))) (c .before .before .before .before .before .before .before .before .before .before .before .before .before .args .page) (sym (c .before .before .before .before .judge-evict .ensures) ∙ c .before .before .enum-told .given .1) .0)), c .before .params-of .ensures .2), omega (arith, (sound-shaped (lentOf (now (c .before .before .before .before .before .before .before .before .before .before .before .before .before .args .fixed)) (now (c .before .before .before .before .before .before .before .before .before .before .before .before .before .args .marks)) (now (c .before .before .before .before .before .before .before .before .before .before .before .before .before .args .log)) (now (c .before .before .before .before .before .before .before .before .before .before .before .before .before .args .stored)) (now (c .before .before .before .before .before .before .before .before .before .before .before .before .before .args .tables)) (now (c .before .before .before .before .before .before .before .before .before .before .before .before .before .args .online)) (now (c .before .before .before .before .before .before .before .before .before .before .before .before .before .args .pool))) (evict-went (lentOf (now (c .before .before .before .before .before .before .before .before .before .before .before .before .before .args .fixed)) (now (c .before .before .before .before .before .before .before .before .before .before .before .before .before .args .marks)) (now (c .before .before .before .before .before .before .before .before .before .before .before .before .before .args .log)) (now (c .before .before .before .before .before .before .before .before .before .before .before .before .before .args .stored)) (now (c .before .before .before .before .before .before .before .before .before .before .before .before .before .args .tables)) (now (c .before .before .before .before .before .before .before .before .before .before .before .before .before .args .online)) (now (c .before .before .before .before .before .before .before .before .before .before .before .before .before .args .pool))) (c .before .before .before .before .before .before .before .before .before .before .before .before .before .args .page) (sym (c .before .before .before .before .judge-evict .ensures) ∙ c .before .before .enum-told .given .1) .0)), c .before .params-of .ensures .2), ap (λ (f : ℕ). inFrame (getD (now (c .before .before .before .before .before .before .before .before .before .before .before .before .before .args .tables)) (entryAt f (c .before .before .before .before .before .before .before .before .before .before .before .before .before .args .page)) 0)) (c .before .params-of .ensures .2) ∙ evict-went (lentOf (now (c .before .before .before .before .before .before .before .before .before .before .before .before .before .args .fixed)) (now (c .before .before .before .before .before .before .before .before .before .before .before .before .before .args .marks)) (now (c .before .before .before .before .before .before .before .before .before .before .before .before .before .args .log)) (now (c .before .before .before .before .before .before .before .before .before .before .before .before .before .args .stored)) (now (c .before .before .before .before .before .before .before .before .before .before .before .before .before .args .tables)) (now (c .before .before .before .before .before .before .before .before .before .before .before .before .before .args .online)) (now (c .before .before .before .before .before .before .before .before .before .before .before .before .before .args .pool))) (c .before .before .before .before .before .before .before .before .before .before .before .before .before .args .page) (sym (c .before .before .before .before .judge-evict .ensures) ∙ c .before .before .enum-told .given .1) .2)
+evict-requires c κs =
+    let k = c .before .before in
+    let j = k .before .before in
+    let w = evict-went (lent j) (start j .args .page) (went k) in
+    let shape = sound-shaped (lent j) (w .0) in
+    let frames = c .before .params-of .ensures .2 in
+    (omega (arith, frames, w .1), omega (arith, frames), omega (arith, frames), rw frames (w .2))
 
 done-requires : tie.Need-done-requires
 done-requires c κs = search needs
@@ -41,16 +66,23 @@ done-requires c κs = search needs
 same-length : tie.Need-same-length
 same-length c = search needs
 
+-- a refusal: its reply, and every byte as it was
 returns : tie.Need-returns
 unfolding evictCall
-returns c = told-refused (judgeEvict (lentOf (now (c .before .before .before .before .before .before .before .before .before .before .before .before .before .args .fixed)) (now (c .before .before .before .before .before .before .before .before .before .before .before .before .before .args .marks)) (now (c .before .before .before .before .before .before .before .before .before .before .before .before .before .args .log)) (now (c .before .before .before .before .before .before .before .before .before .before .before .before .before .args .stored)) (now (c .before .before .before .before .before .before .before .before .before .before .before .before .before .args .tables)) (now (c .before .before .before .before .before .before .before .before .before .before .before .before .before .args .online)) (now (c .before .before .before .before .before .before .before .before .before .before .before .before .before .args .pool))) (c .before .before .before .before .before .before .before .before .before .before .before .before .before .args .page)) (lentOf (now (c .before .before .before .before .before .before .before .before .before .before .before .before .before .args .fixed)) (now (c .before .before .before .before .before .before .before .before .before .before .before .before .before .args .marks)) (now (c .before .before .before .before .before .before .before .before .before .before .before .before .before .args .log)) (now (c .before .before .before .before .before .before .before .before .before .before .before .before .before .args .stored)) (now (c .before .before .before .before .before .before .before .before .before .before .before .before .before .args .tables)) (now (c .before .before .before .before .before .before .before .before .before .before .before .before .before .args .online)) (now (c .before .before .before .before .before .before .before .before .before .before .before .before .before .args .pool))) [] (doneWith (evicted (lentOf (now (c .before .before .before .before .before .before .before .before .before .before .before .before .before .args .fixed)) (now (c .before .before .before .before .before .before .before .before .before .before .before .before .before .args .marks)) (now (c .before .before .before .before .before .before .before .before .before .before .before .before .before .args .log)) (now (c .before .before .before .before .before .before .before .before .before .before .before .before .before .args .stored)) (now (c .before .before .before .before .before .before .before .before .before .before .before .before .before .args .tables)) (now (c .before .before .before .before .before .before .before .before .before .before .before .before .before .args .online)) (now (c .before .before .before .before .before .before .before .before .before .before .before .before .before .args .pool))) (c .before .before .before .before .before .before .before .before .before .before .before .before .before .args .page)) []) (c .before .before .v .given .0 .0) _ (sym (c .before .before .before .before .judge-evict .ensures) ∙ c .before .before .v .given .1) (c .refused .ensures)
+returns c = rw (refused (c .before .before)) (record { reply = c .refused .ensures; lent = refl })
 
 same-length-2 : tie.Need-same-length-2
 same-length-2 c = search needs
 
+-- go: what the step counted and left
 returns-2 : tie.Need-returns-2
 unfolding evictCall evicted
-returns-2 c = told-done (judgeEvict (lentOf (now (c .before .before .before .before .before .before .before .before .before .before .before .before .before .before .before .before .before .args .fixed)) (now (c .before .before .before .before .before .before .before .before .before .before .before .before .before .before .before .before .before .args .marks)) (now (c .before .before .before .before .before .before .before .before .before .before .before .before .before .before .before .before .before .args .log)) (now (c .before .before .before .before .before .before .before .before .before .before .before .before .before .before .before .before .before .args .stored)) (now (c .before .before .before .before .before .before .before .before .before .before .before .before .before .before .before .before .before .args .tables)) (now (c .before .before .before .before .before .before .before .before .before .before .before .before .before .before .before .before .before .args .online)) (now (c .before .before .before .before .before .before .before .before .before .before .before .before .before .before .before .before .before .args .pool))) (c .before .before .before .before .before .before .before .before .before .before .before .before .before .before .before .before .before .args .page)) (lentOf (now (c .before .before .before .before .before .before .before .before .before .before .before .before .before .before .before .before .before .args .fixed)) (now (c .before .before .before .before .before .before .before .before .before .before .before .before .before .before .before .before .before .args .marks)) (now (c .before .before .before .before .before .before .before .before .before .before .before .before .before .before .before .before .before .args .log)) (now (c .before .before .before .before .before .before .before .before .before .before .before .before .before .before .before .before .before .args .stored)) (now (c .before .before .before .before .before .before .before .before .before .before .before .before .before .before .before .before .before .args .tables)) (now (c .before .before .before .before .before .before .before .before .before .before .before .before .before .before .before .before .before .args .online)) (now (c .before .before .before .before .before .before .before .before .before .before .before .before .before .before .before .before .before .args .pool))) [] [] (evicted (lentOf (now (c .before .before .before .before .before .before .before .before .before .before .before .before .before .before .before .before .before .args .fixed)) (now (c .before .before .before .before .before .before .before .before .before .before .before .before .before .before .before .before .before .args .marks)) (now (c .before .before .before .before .before .before .before .before .before .before .before .before .before .before .before .before .before .args .log)) (now (c .before .before .before .before .before .before .before .before .before .before .before .before .before .before .before .before .before .args .stored)) (now (c .before .before .before .before .before .before .before .before .before .before .before .before .before .before .before .before .before .args .tables)) (now (c .before .before .before .before .before .before .before .before .before .before .before .before .before .before .before .before .before .args .online)) (now (c .before .before .before .before .before .before .before .before .before .before .before .before .before .before .before .before .before .args .pool))) (c .before .before .before .before .before .before .before .before .before .before .before .before .before .before .before .before .before .args .page)) _ _ (sym (c .before .before .before .before .before .before .before .before .judge-evict .ensures) ∙ c .before .before .before .before .before .before .enum-told .given .1) (c .done .ensures) (λ j. lentOf (now (c .before .before .before .before .before .before .before .before .before .before .before .before .before .before .before .before .before .args .fixed)) (now (c .before .before .before .before .before .before .before .before .before .before .before .before .before .before .before .before .before .args .marks)) (now (c .before .before .before .before .before .before .before .before .before .before .before .before .before .before .before .before .before .args .log)) (now (c .before .before .before .before .before .before .before .before .before .before .before .before .before .before .before .before .before .args .stored)) ((c .before .before .before .evict .ensures ∙ (λ i. withOrder (c .before .before .before .before .before .params-of .ensures .2 i) (without (frameOf (getD (now (c .before .before .before .before .before .before .before .before .before .before .before .before .before .before .before .before .before .args .tables)) (entryAt (c .before .before .before .before .before .params-of .ensures .2 i) (c .before .before .before .before .before .before .before .before .before .before .before .before .before .before .before .before .before .args .page)) 0)) (part 35 (getD (now (c .before .before .before .before .before .before .before .before .before .before .before .before .before .before .before .before .before .args .tables)) 2 0) (now (c .before .before .before .before .before .before .before .before .before .before .before .before .before .before .before .before .before .args .tables)))) (set (now (c .before .before .before .before .before .before .before .before .before .before .before .before .before .before .before .before .before .args .tables)) (entryAt (c .before .before .before .before .before .params-of .ensures .2 i) (c .before .before .before .before .before .before .before .before .before .before .before .before .before .before .before .before .before .args .page)) ((getD (now (c .before .before .before .before .before .before .before .before .before .before .before .before .before .before .before .before .before .args .tables)) (entryAt (c .before .before .before .before .before .params-of .ensures .2 i) (c .before .before .before .before .before .before .before .before .before .before .before .before .before .before .before .before .before .args .page)) 0) % 2)))) j) (now (c .before .before .before .before .before .before .before .before .before .before .before .before .before .before .before .before .before .args .online)) (now (c .before .before .before .before .before .before .before .before .before .before .before .before .before .before .before .before .before .args .pool)))
+returns-2 c =
+    let k = c .before .before .before .before .before .before in
+    let j = k .before .before in
+    let s = lent j in
+    let tables = rw (c .before .before .before .before .before .params-of .ensures .2) at (c .before .before .before .evict .ensures) in
+    rw (went k) (record { reply = c .done .ensures; lent = λ i. lostNow s (tables i) (s .lost .online) (s .lost .pool) })
 
 pub ventarico-evict-spec : {M : Type 1} → statement M
 ventarico-evict-spec =
