@@ -24,7 +24,7 @@ use Rattle.compact.specs.declared.Plan.{Plan}
 use Rattle.compact.specs.declared.Sizes.{Sizes}
 use Rattle.compact.specs.Planned.{Measured, Planned}
 
--- `is_due`, `compact_step`
+-- `compact_step`
 pub due-read : (fixed marks log stored tables online pool : List ℕ) (p minDel maxAge m n least last a : ℕ) (r : Bool) → m ≡ num 2 tables 0
     → n ≡ length (keep (committedOn p) (rows 19 m online 0)) → least ≡ smallest 0 (keep (committedOn p) (rows 19 m online 0)) → last ≡ num 4 marks 0 → a ≡ last - least
     → r ≡ (leb 1 n && (leb minDel n || leb maxAge a)) → r ≡ due (lentOf fixed marks log stored tables online pool) p minDel maxAge

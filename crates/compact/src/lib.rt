@@ -15,7 +15,7 @@ ghost use Rattle.table.specs.Before.{NoneBefore};
 ghost use Rattle.table.specs.Seen.{Surveyed};
 ghost use Rattle.rules.specs.Lent.{lentOf, pagesOf, countOf, pageIn, withPage, withOrder, withCount, entryAt};
 ghost use Rattle.rules.specs.Shape.{Shaped};
-ghost use Rattle.rules.specs.Steps.{due, compacted, compactStep};
+ghost use Rattle.rules.specs.Steps.{compacted, compactStep};
 ghost use Rattle.compact.specs.Planned.{Measured, Planned};
 use number::FrameNo;
 use number::PageNo;
@@ -62,28 +62,6 @@ fn due_by(n: u64, age: u64, min_del: u64, max_age: u64) -> bool
     ensures { λ r. ⌜ r ≡ (leb 1 n && (leb «min_del» n || leb «max_age» age)) ⌝ }
 {
     (1 <= n) & ((min_del <= n) | (max_age <= age))
-}
-
-// Whether compact is due for page p.
-pub fn is_due(
-    fixed: &[u8],
-    marks: &[u8],
-    log: &[u8],
-    stored: &[u8],
-    tables: &[u8],
-    online: &[u8],
-    pool: &[u8],
-    p: PageNo,
-    min_del: u64,
-    max_age: u64,
-) -> bool
-    requires { ⌜ Shaped (lentOf (now fixed) (now marks) (now log) (now stored) (now tables) (now online) (now pool)) ⌝ }
-    ensures { λ r. ⌜ r ≡ due (lentOf (now (fixed .entry)) (now (marks .entry)) (now (log .entry)) (now (stored .entry)) (now (tables .entry)) (now (online .entry)) (now (pool .entry))) (p .0) «min_del» «max_age» ⌝ }
-{
-    let m = word::load(tables, 0, 2) as usize;
-    let s = table::survey(online, m, p);
-    let last = word::load(marks, 0, 4);
-    due_by(s.committed as u64, age(last, s.least), min_del, max_age)
 }
 
 fn measure(fixed: &[u8], tables: &[u8]) -> Sizes
@@ -264,27 +242,6 @@ fn compact_by(
         reads: plan.reads,
         writes: 1,
     }
-}
-
-// Compact, on all the lent areas: the page is written, due or not.
-pub fn compact_page(
-    fixed: &[u8],
-    marks: &mut [u8],
-    log: &[u8],
-    stored: &mut [u8],
-    tables: &mut [u8],
-    online: &mut [u8],
-    pool: &[u8],
-    p: PageNo,
-) -> Compacted
-    requires { ⌜ Shaped (lentOf (now fixed) (now marks) (now log) (now stored) (now tables) (now online) (now pool)) × (p .0 < pagesOf (lentOf (now fixed) (now marks) (now log) (now stored) (now tables) (now online) (now pool))) ⌝ }
-    ensures reads { λ r. ⌜ r .reads ≡ compacted (lentOf (now (fixed .entry)) (now (marks .entry)) (now (log .entry)) (now (stored .entry)) (now (tables .entry)) (now (online .entry)) (now (pool .entry))) (p .0) .reads ⌝ }
-    ensures writes { λ r. ⌜ r .writes ≡ compacted (lentOf (now (fixed .entry)) (now (marks .entry)) (now (log .entry)) (now (stored .entry)) (now (tables .entry)) (now (online .entry)) (now (pool .entry))) (p .0) .writes ⌝ }
-    ensures lent { λ r. ⌜ lentOf (now (fixed .entry)) (now (marks .exit)) (now (log .entry)) (now (stored .exit)) (now (tables .exit)) (now (online .exit)) (now (pool .entry)) ≡ compacted (lentOf (now (fixed .entry)) (now (marks .entry)) (now (log .entry)) (now (stored .entry)) (now (tables .entry)) (now (online .entry)) (now (pool .entry))) (p .0) .lent ⌝ }
-{
-    let m = word::load(tables, 0, 2) as usize;
-    let s = table::survey(online, m, p);
-    compact_by(fixed, marks, log, stored, tables, online, pool, p, s)
 }
 
 // Compact as a step: nothing changes where it is not due. One survey serves both to judge that and to compact.
