@@ -75,6 +75,7 @@ fn writes(call: &Call) -> [bool; 7] {
 }
 
 /// A slice as C sees it. An empty one is NULL: the header allows it, so it is tried.
+#[inline(always)]
 fn lend(slice: &mut [u8]) -> Slice {
     let start = if slice.is_empty() { std::ptr::null_mut() } else { slice.as_mut_ptr() };
     (start, slice.len())
@@ -89,6 +90,8 @@ impl Store for Archive {
 }
 
 /// Makes the call on the seven areas and read's buffer. Each slice must be valid, and none may overlap another.
+/// Inlined, so that the slices go to C without a stay in memory: a short call would be measured with that.
+#[inline(always)]
 unsafe fn call_on(call: &Call, slices: [Slice; 8]) -> Reply {
     let [fixed, marks, log, stored, tables, online, pool, buffer] = slices;
     macro_rules! with_areas {
