@@ -92,7 +92,9 @@ module _ (s : Lent) (n x p offset w : ℕ) where
   r3 = refuseIf (not (isNumber x)) (Argument Number) r4
 
   -- every test of the chain
-  read-tests : judgeRead s n x p offset w ≡ Go → (sound s ≡ true) × (ltb p (pagesOf s) ≡ true) × (isNumber x ≡ true) × (leb (offset + w) (sizeOf s) ≡ true) × (ltb n w ≡ false) × (isLive (s .lost .tables) x ≡ true) × (held (onlineOf s) x p offset w ≡ false)
+  read-tests : judgeRead s n x p offset w ≡ Go
+      → (sound s ≡ true) × (ltb p (pagesOf s) ≡ true) × (isNumber x ≡ true) × (leb (offset + w) (sizeOf s) ≡ true)
+      × (ltb n w ≡ false) × (isLive (s .lost .tables) x ≡ true) × (held (onlineOf s) x p offset w ≡ false)
   unfolding judgeRead mayRead
   read-tests e =
       let a = checked-went s (refuseIf (not (ltb p (pagesOf s))) (Argument Page) r3) e in
@@ -138,7 +140,9 @@ module _ (s : Lent) (x p offset w kind v : ℕ) where
   u3 = refuseIf (not (isNumber x)) (Argument Number) u4
 
   -- every test of the chain
-  update-tests : judgeUpdate s x p offset w kind v ≡ Go → (sound s ≡ true) × (ltb p (pagesOf s) ≡ true) × (isNumber x ≡ true) × (isLength w ≡ true) × (leb (offset + w) (sizeOf s) ≡ true) × (ltb v (256 ^ w) ≡ true) × (leb kind 1 ≡ true) × (isLive (s .lost .tables) x ≡ true) × (held (onlineOf s) x p offset w ≡ false) × (ltb (roomOf s - countOf s) 1 ≡ false)
+  update-tests : judgeUpdate s x p offset w kind v ≡ Go
+      → (sound s ≡ true) × (ltb p (pagesOf s) ≡ true) × (isNumber x ≡ true) × (isLength w ≡ true) × (leb (offset + w) (sizeOf s) ≡ true)
+      × (ltb v (256 ^ w) ≡ true) × (leb kind 1 ≡ true) × (isLive (s .lost .tables) x ≡ true) × (held (onlineOf s) x p offset w ≡ false) × (ltb (roomOf s - countOf s) 1 ≡ false)
   unfolding judgeUpdate mayUpdate
   update-tests e =
       let a = checked-went s (refuseIf (not (ltb p (pagesOf s))) (Argument Page) u3) e in
@@ -150,10 +154,21 @@ module _ (s : Lent) (x p offset w kind v : ℕ) where
       let i = went (not (leb kind 1)) (Argument Kind) u8 (h .1) in
       let j = went (not (isLive (s .lost .tables) x)) NotLive u9 (i .1) in
       let l = went (held (onlineOf s) x p offset w) Held u10 (j .1) in
-      let m = went (ltb (roomOf s - countOf s) 1) OnlineFull Go (l .1) in
-      (a .0, not-false (ltb p (pagesOf s)) (b .0), not-false (isNumber x) (d .0), not-false (isLength w) (f .0), not-false (leb (offset + w) (sizeOf s)) (g .0), not-false (ltb v (256 ^ w)) (h .0), not-false (leb kind 1) (i .0), not-false (isLive (s .lost .tables) x) (j .0), l .0, m .0)
+      let m = went (ltb (roomOf s - countOf s) 1) OnlineFull Go (l .1) in (
+        a .0,
+        not-false (ltb p (pagesOf s)) (b .0),
+        not-false (isNumber x) (d .0),
+        not-false (isLength w) (f .0),
+        not-false (leb (offset + w) (sizeOf s)) (g .0),
+        not-false (ltb v (256 ^ w)) (h .0),
+        not-false (leb kind 1) (i .0),
+        not-false (isLive (s .lost .tables) x) (j .0),
+        l .0,
+        m .0,
+      )
 
-  pub update-went : judgeUpdate s x p offset w kind v ≡ Go → (sound s ≡ true) × (p < pagesOf s) × (offset + w ≤ sizeOf s) × (w ≤ 8) × (countOf s < roomOf s) × (isNumber x ≡ true) × (kind ≤ 1)
+  pub update-went : judgeUpdate s x p offset w kind v ≡ Go
+      → (sound s ≡ true) × (p < pagesOf s) × (offset + w ≤ sizeOf s) × (w ≤ 8) × (countOf s < roomOf s) × (isNumber x ≡ true) × (kind ≤ 1)
   update-went e =
       let a = update-tests e in
       let free : 1 ≤ roomOf s - countOf s = ltb-false (roomOf s - countOf s) 1 (a .9) in
@@ -185,7 +200,8 @@ restart-went s e =
     let b = went (ltb (roomOf s) (length (enteringAll s))) OnlineFull Go (a .1) in
     (not-false (soundDurable s) (a .0), ltb-false (roomOf s) (length (enteringAll s)) (b .0))
 
-pub format-went : (s : Lent) (size pages frames room span : ℕ) → judgeFormat s size pages frames room span ≡ Go → (inRange size pages frames room span ≡ true) × (length (s .durable .fixed) ≡ 20) × (exactLengths s size pages frames room span ≡ true)
+pub format-went : (s : Lent) (size pages frames room span : ℕ) → judgeFormat s size pages frames room span ≡ Go
+    → (inRange size pages frames room span ≡ true) × (length (s .durable .fixed) ≡ 20) × (exactLengths s size pages frames room span ≡ true)
 unfolding judgeFormat
 format-went s size pages frames room span e =
     let fits : Bool = eqb (length (s .durable .fixed)) 20 && exactLengths s size pages frames room span in

@@ -29,7 +29,9 @@ add-result c = search needs
 
 returns : tie.Need-returns
 returns c =
-    clash-fields _ _ _ _ (rowAt 19 (now (c .before .before .before .before .before .before .args .online)) (c .before .before .before .before .before .before .args .i)) _ _ _ _ (c .before .before .before .before .owner-of .ensures) (c .before .before .before .page-of .ensures .0) (c .before .before .offset-of .ensures .0) (c .before .length-of .ensures .0)
+    clash-fields _ _ _ _ (rowAt 19 (now (c .before .before .before .before .before .before .args .online)) (c .before .before .before .before .before .before .args .i)) _ _ _ _
+    (c .before .before .before .before .owner-of .ensures) (c .before .before .before .page-of .ensures .0)
+    (c .before .before .offset-of .ensures .0) (c .before .length-of .ensures .0)
 
 pub clashes-row-spec : {M : Type 1} → statement M
 clashes-row-spec =

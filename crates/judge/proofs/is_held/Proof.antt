@@ -1,6 +1,8 @@
 -- `judge::is_held` meets its contract: what is left of the rows says what all of them say.
-use Prim.Native.Nat.{_≤_, _-_}
+use Prim.Native.Nat.{ℕ, _≤_, _-_}
 use mathlib.Core.Path.{_≡_, sym, _∙_}
+use mathlib.Core.Bool.{Bool}
+use mathlib.Core.List.{List}
 use denote.Ref.{now}
 use borrow.Author.Needs.{needs}
 use Rattle.record.specs.Rows.{rows, any}
@@ -15,6 +17,10 @@ Inv-loop online m x p offset w i₀ i = (i ≤ m) × (any (clashes x p offset w)
 abbrev μ-loop : tie.MeasureT-loop
 μ-loop online m x p offset w i₀ i = m - i
 
+-- what is asked of each row
+abbrev clash : tie.Start Inv-loop μ-loop → List ℕ → Bool
+clash s = let a = s .args in clashes (a .x) (a .p) (a .offset) (a .w)
+
 loop-holds : tie.Need-loop-holds Inv-loop μ-loop
 loop-holds c = (search needs, any-start _ _ _)
 
@@ -23,7 +29,8 @@ clashes-row-requires c κs = search needs
 
 returns : tie.Need-returns Inv-loop μ-loop
 returns c =
-    any-found (clashes (c .before .before .before .before .before .args .x) (c .before .before .before .before .before .args .p) (c .before .before .before .before .before .args .offset) (c .before .before .before .before .before .args .w)) (now (c .before .before .before .before .before .args .online)) _ _ (c .before .before .loop-test .taken) (same _ _ _ (c .before .clashes-row .ensures) (c .if1 .taken))
+    any-found (clash (c .before .before .before .before .before)) (now (c .before .before .before .before .before .args .online))
+    _ _ (c .before .before .loop-test .taken) (same _ _ _ (c .before .clashes-row .ensures) (c .if1 .taken))
     ∙ c .before .before .before .loop .inv .1
 
 add-i : tie.Need-add-i Inv-loop μ-loop
@@ -35,12 +42,13 @@ loop-less c = search needs
 loop-again : tie.Need-loop-again Inv-loop μ-loop
 loop-again c = (
   search needs,
-  sym (any-turn (clashes (c .before .before .before .before .before .args .x) (c .before .before .before .before .before .args .p) (c .before .before .before .before .before .args .offset) (c .before .before .before .before .before .args .w)) (now (c .before .before .before .before .before .args .online)) _ _ (c .before .before .loop-test .taken) (same _ _ _ (c .before .clashes-row .ensures) (c .if1 .left)))
+  sym (any-turn (clash (c .before .before .before .before .before)) (now (c .before .before .before .before .before .args .online))
+      _ _ (c .before .before .loop-test .taken) (same _ _ _ (c .before .clashes-row .ensures) (c .if1 .left)))
       ∙ c .before .before .before .loop .inv .1,
 )
 
 returns-2 : tie.Need-returns-2 Inv-loop μ-loop
-returns-2 c = any-none (clashes (c .before .before .before .args .x) (c .before .before .before .args .p) (c .before .before .before .args .offset) (c .before .before .before .args .w)) (now (c .before .before .before .args .online)) _ _ (c .loop-test .left) ∙ c .before .loop .inv .1
+returns-2 c = any-none (clash (c .before .before .before)) (now (c .before .before .before .args .online)) _ _ (c .loop-test .left) ∙ c .before .loop .inv .1
 
 pub is-held-spec : {M : Type 1} → statement M
 is-held-spec =

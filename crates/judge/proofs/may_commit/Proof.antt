@@ -1,14 +1,48 @@
 -- `judge::may_commit` meets its contract: each return is the case of `mayCommit` that its tests pick.
-use mathlib.Core.Path.{refl, ap, sym, _∙_}
-use mathlib.Core.Bool.{not}
-use borrow.Author.Needs.{needs}
-use borrow.Author.Tests.{eq-eqb, ne-eqb, lt-ltb, le-ltb}
 use Rattle.word.proofs.Tests.{so}
-use Rattle.rules.specs.Calls.{mayCommit}
+use Prim.Native.Nat.{_+_}
+use mathlib.Core.Path.{_≡_, refl}
+use mathlib.Core.Bool.{not}
+use borrow.Author.Tests.{lt-ltb, le-ltb}
+use denote.Ref.{now}
+use lib.Dec.{ltb}
+use Rattle.rules.specs.declared.Refusal.the-variants.{NotLive, LogFull, NumbersEnd}
+use Rattle.rules.specs.declared.Verdict.{Verdict}
+use Rattle.rules.specs.declared.Verdict.the-variants.{Go}
+use Rattle.rules.specs.Calls.{refuseIf, isLive, mayCommit}
 use Rattle.rules.proofs.Verdicts.{refused, passed, number-most}
 use Rattle.judge.proofs.Laws.{turned}
+use borrow.Author.Needs.{needs}
 use Rattle.judge.proofs.may_commit.Statement.{statement}
 use Rattle.judge.proofs.may_commit.Tie as tie
+
+-- the verdict of the tests from each on, the last first
+abbrev from4 : tie.Start → Verdict
+from4 s = let a = s .args in refuseIf (ltb 4294967295 (a .last + a .k)) NumbersEnd Go
+
+abbrev from3 : tie.Start → Verdict
+from3 s = let a = s .args in refuseIf (ltb (a .span) (a .n + a .k)) LogFull (from4 s)
+
+abbrev from2 : tie.Start → Verdict
+from2 s = let a = s .args in refuseIf (not (isLive (now (a .tables)) (a .x))) NotLive (from3 s)
+
+-- and of all
+abbrev word : tie.Start → Verdict
+word s = let a = s .args in mayCommit (a .span) (a .n) (a .last) (now (a .tables)) (a .k) (a .x)
+
+-- a test that was passed leaves the word to those that follow
+past1 : (k : tie.Else1) (v : Verdict) → let s = k .before .before .before in v ≡ from2 s → v ≡ word s
+unfolding mayCommit
+past1 k v e = passed _ _ _ _ (turned _ _ _ (k .before .is-number .ensures) (k .if1 .left)) e
+
+past2 : (k : tie.Else2) (v : Verdict) → let s = k .before .before .before .before .before in v ≡ from3 s → v ≡ word s
+past2 k v e = past1 (k .before .before) v (passed _ _ _ _ (turned _ _ _ (k .before .is-live .ensures) (k .if2 .left)) e)
+
+past3 : (k : tie.Else3) (v : Verdict) → let s = k .before .before .before .before .before .before in v ≡ from4 s → v ≡ word s
+past3 k v e = past2 (k .before) v (passed _ _ _ _ (le-ltb _ _ (k .if3 .left)) e)
+
+past4 : (k : tie.Else4) (v : Verdict) → let s = k .before .before .before .before .before .before .before in v ≡ Go → v ≡ word s
+past4 k v e = past3 (k .before) v (passed _ _ _ _ (le-ltb _ _ (k .if4 .left)) e)
 
 is-number-requires : tie.Need-is-number-requires
 is-number-requires c κs = search needs
@@ -21,26 +55,22 @@ is-live-requires : tie.Need-is-live-requires
 is-live-requires c κs = (number-most _ (so _ _ (c .before .is-number .ensures) (c .if1 .left)), search needs)
 
 returns-2 : tie.Need-returns-2
-unfolding mayCommit
-returns-2 c = passed _ _ _ _ (turned _ _ _ (c .before .before .before .is-number .ensures) (c .before .before .if1 .left)) (refused _ _ _ (turned _ _ _ (c .before .is-live .ensures) (c .if2 .taken)))
+returns-2 c = past1 (c .before .before) _ (refused _ _ _ (turned _ _ _ (c .before .is-live .ensures) (c .if2 .taken)))
 
 add-if3 : tie.Need-add-if3
 add-if3 c = search needs
 
 returns-3 : tie.Need-returns-3
-unfolding mayCommit
-returns-3 c = passed _ _ _ _ (turned _ _ _ (c .before .before .before .before .is-number .ensures) (c .before .before .before .if1 .left)) (passed _ _ _ _ (turned _ _ _ (c .before .before .is-live .ensures) (c .before .if2 .left)) (refused _ _ _ (lt-ltb _ _ (c .if3 .taken))))
+returns-3 c = past2 (c .before) _ (refused _ _ _ (lt-ltb _ _ (c .if3 .taken)))
 
 add-if4 : tie.Need-add-if4
 add-if4 c = search needs
 
 returns-4 : tie.Need-returns-4
-unfolding mayCommit
-returns-4 c = passed _ _ _ _ (turned _ _ _ (c .before .before .before .before .before .is-number .ensures) (c .before .before .before .before .if1 .left)) (passed _ _ _ _ (turned _ _ _ (c .before .before .before .is-live .ensures) (c .before .before .if2 .left)) (passed _ _ _ _ (le-ltb _ _ (c .before .if3 .left)) (refused _ _ _ (lt-ltb _ _ (c .if4 .taken)))))
+returns-4 c = past3 (c .before) _ (refused _ _ _ (lt-ltb _ _ (c .if4 .taken)))
 
 returns-5 : tie.Need-returns-5
-unfolding mayCommit
-returns-5 c = passed _ _ _ _ (turned _ _ _ (c .before .before .before .before .before .is-number .ensures) (c .before .before .before .before .if1 .left)) (passed _ _ _ _ (turned _ _ _ (c .before .before .before .is-live .ensures) (c .before .before .if2 .left)) (passed _ _ _ _ (le-ltb _ _ (c .before .if3 .left)) (passed _ _ _ _ (le-ltb _ _ (c .if4 .left)) refl)))
+returns-5 c = past4 c _ refl
 
 pub may-commit-spec : {M : Type 1} → statement M
 may-commit-spec =

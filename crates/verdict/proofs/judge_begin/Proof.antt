@@ -1,15 +1,32 @@
 -- `verdict::judge_begin` meets its contract: the check first, then the case of `judgeBegin` that the call's own tests pick.
-use Rattle.word.proofs.Tests.{so}
-use Rattle.judge.proofs.Laws.{turned}
+use borrow.Author.Tests.{not-false}
+use native.Mathlib.Omega.{arith}
+use mathlib.Core.Path.{_≡_}
+use mathlib.Core.Bool.{false, not}
+use denote.Ref.{now}
+use Rattle.rules.specs.Lent.{Lent, lentOf}
+use Rattle.rules.specs.Sound.{sound}
+use Rattle.rules.specs.Shape.{Shaped}
+use Rattle.rules.specs.Calls.{judgeBegin}
 use Rattle.rules.proofs.Verdicts.{refused, passed}
 use Rattle.sound.proofs.Laws.{sound-shaped}
-use Rattle.rules.specs.Lent.{lentOf}
-use denote.Ref.{now}
-use native.Mathlib.Omega.{arith}
-use Rattle.rules.specs.Calls.{judgeBegin}
+use Rattle.judge.proofs.Laws.{turned}
 use borrow.Author.Needs.{needs}
 use Rattle.verdict.proofs.judge_begin.Statement.{statement}
 use Rattle.verdict.proofs.judge_begin.Tie as tie
+
+-- the lent bytes at entry
+abbrev lent : tie.Else1 → Lent
+lent k =
+    let a = k .before .before .before .before .before .before .before .before .before .args in
+    lentOf (now (a .fixed)) (now (a .marks)) (now (a .log)) (now (a .stored)) (now (a .tables)) (now (a .online)) (now (a .pool))
+
+-- past the check they are sound, and so have their shape
+past : (k : tie.Else1) → not (sound (lent k)) ≡ false
+past k = turned _ _ _ (k .before .is-sound .ensures) (k .if1 .left)
+
+shaped : (k : tie.Else1) → Shaped (lent k)
+shaped k = sound-shaped (lent k) (not-false (sound (lent k)) (past k))
 
 is-sound-requires : tie.Need-is-sound-requires
 is-sound-requires c κs = search needs
@@ -19,11 +36,11 @@ unfolding judgeBegin
 returns c = refused _ _ _ (turned _ _ _ (c .before .is-sound .ensures) (c .if1 .taken))
 
 may-begin-requires : tie.Need-may-begin-requires
-may-begin-requires c κs = omega (arith, sound-shaped (lentOf (now (c .before .before .before .before .before .before .before .before .before .args .fixed)) (now (c .before .before .before .before .before .before .before .before .before .args .marks)) (now (c .before .before .before .before .before .before .before .before .before .args .log)) (now (c .before .before .before .before .before .before .before .before .before .args .stored)) (now (c .before .before .before .before .before .before .before .before .before .args .tables)) (now (c .before .before .before .before .before .before .before .before .before .args .online)) (now (c .before .before .before .before .before .before .before .before .before .args .pool))) (so _ _ (c .before .is-sound .ensures) (c .if1 .left)))
+may-begin-requires c κs = omega (arith, shaped c)
 
 returns-2 : tie.Need-returns-2
 unfolding judgeBegin
-returns-2 c = passed _ _ _ _ (turned _ _ _ (c .before .before .is-sound .ensures) (c .before .if1 .left)) (c .may-begin .ensures)
+returns-2 c = passed _ _ _ _ (past (c .before)) (c .may-begin .ensures)
 
 pub judge-begin-spec : {M : Type 1} → statement M
 judge-begin-spec = tie.close (tie.spec is-sound-requires returns may-begin-requires returns-2)

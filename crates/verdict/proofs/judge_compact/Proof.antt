@@ -1,15 +1,31 @@
 -- `verdict::judge_compact` meets its contract: the check first, then the case of `judgeCompact` that the call's own tests pick.
-use Rattle.word.proofs.Tests.{so}
-use Rattle.judge.proofs.Laws.{turned}
+use borrow.Author.Tests.{not-false}
+use mathlib.Core.Path.{_≡_}
+use mathlib.Core.Bool.{false, not}
+use denote.Ref.{now}
+use Rattle.rules.specs.Lent.{Lent, lentOf}
+use Rattle.rules.specs.Sound.{sound}
+use Rattle.rules.specs.Shape.{Shaped}
+use Rattle.rules.specs.Calls.{judgeCompact}
 use Rattle.rules.proofs.Verdicts.{refused, passed}
 use Rattle.sound.proofs.Laws.{sound-shaped}
-use Rattle.rules.specs.Lent.{lentOf}
-use denote.Ref.{now}
-use mathlib.Core.Path.{_∙_}
-use Rattle.rules.specs.Calls.{mayCompact, judgeCompact}
+use Rattle.judge.proofs.Laws.{turned}
 use borrow.Author.Needs.{needs}
 use Rattle.verdict.proofs.judge_compact.Statement.{statement}
 use Rattle.verdict.proofs.judge_compact.Tie as tie
+
+-- the lent bytes at entry
+abbrev lent : tie.Else1 → Lent
+lent k =
+    let a = k .before .before .before .before .before .before .before .before .before .args in
+    lentOf (now (a .fixed)) (now (a .marks)) (now (a .log)) (now (a .stored)) (now (a .tables)) (now (a .online)) (now (a .pool))
+
+-- past the check they are sound, and so have their shape
+past : (k : tie.Else1) → not (sound (lent k)) ≡ false
+past k = turned _ _ _ (k .before .is-sound .ensures) (k .if1 .left)
+
+shaped : (k : tie.Else1) → Shaped (lent k)
+shaped k = sound-shaped (lent k) (not-false (sound (lent k)) (past k))
 
 is-sound-requires : tie.Need-is-sound-requires
 is-sound-requires c κs = search needs
@@ -19,14 +35,14 @@ unfolding judgeCompact
 returns c = refused _ _ _ (turned _ _ _ (c .before .is-sound .ensures) (c .if1 .taken))
 
 params-of-requires : tie.Need-params-of-requires
-params-of-requires c κs = sound-shaped (lentOf (now (c .before .before .before .before .before .before .before .before .before .args .fixed)) (now (c .before .before .before .before .before .before .before .before .before .args .marks)) (now (c .before .before .before .before .before .before .before .before .before .args .log)) (now (c .before .before .before .before .before .before .before .before .before .args .stored)) (now (c .before .before .before .before .before .before .before .before .before .args .tables)) (now (c .before .before .before .before .before .before .before .before .before .args .online)) (now (c .before .before .before .before .before .before .before .before .before .args .pool))) (so _ _ (c .before .is-sound .ensures) (c .if1 .left)) .sized .fixed
+params-of-requires c κs = shaped c .sized .fixed
 
 may-compact-requires : tie.Need-may-compact-requires
 may-compact-requires c κs = search needs
 
 returns-2 : tie.Need-returns-2
 unfolding judgeCompact
-returns-2 c = passed _ _ _ _ (turned _ _ _ (c .before .before .before .is-sound .ensures) (c .before .before .if1 .left)) (c .may-compact .ensures ∙ (λ i. mayCompact (c .before .params-of .ensures .1 i) (c .before .before .before .before .before .before .before .before .before .before .before .args .p) (c .before .before .before .before .before .before .before .before .before .before .before .args .min-del) (c .before .before .before .before .before .before .before .before .before .before .before .args .max-age)))
+returns-2 c = passed _ _ _ _ (past (c .before .before)) (rw (c .before .params-of .ensures .1) at (c .may-compact .ensures))
 
 pub judge-compact-spec : {M : Type 1} → statement M
 judge-compact-spec =

@@ -1,18 +1,32 @@
 -- `verdict::judge_evict` meets its contract: the check first, then the case of `judgeEvict` that the call's own tests pick.
-use Rattle.word.proofs.Tests.{so}
-use Rattle.judge.proofs.Laws.{turned}
+use borrow.Author.Tests.{not-false}
+use native.Mathlib.Omega.{arith}
+use mathlib.Core.Path.{_≡_}
+use mathlib.Core.Bool.{false, not}
+use denote.Ref.{now}
+use Rattle.rules.specs.Lent.{Lent, lentOf}
+use Rattle.rules.specs.Sound.{sound}
+use Rattle.rules.specs.Shape.{Shaped}
+use Rattle.rules.specs.Calls.{judgeEvict}
 use Rattle.rules.proofs.Verdicts.{refused, passed}
 use Rattle.sound.proofs.Laws.{sound-shaped}
-use Rattle.rules.specs.Lent.{lentOf, entryAt}
-use denote.Ref.{now}
-use mathlib.Core.Path.{ap, _∙_}
-use native.Mathlib.Omega.{arith}
-use lib.ListN.{getD}
-use Prim.Native.Nat.{ℕ}
-use Rattle.rules.specs.Calls.{mayEvict, judgeEvict}
+use Rattle.judge.proofs.Laws.{turned}
 use borrow.Author.Needs.{needs}
 use Rattle.verdict.proofs.judge_evict.Statement.{statement}
 use Rattle.verdict.proofs.judge_evict.Tie as tie
+
+-- the lent bytes at entry
+abbrev lent : tie.Else1 → Lent
+lent k =
+    let a = k .before .before .before .before .before .before .before .before .before .args in
+    lentOf (now (a .fixed)) (now (a .marks)) (now (a .log)) (now (a .stored)) (now (a .tables)) (now (a .online)) (now (a .pool))
+
+-- past the check they are sound, and so have their shape
+past : (k : tie.Else1) → not (sound (lent k)) ≡ false
+past k = turned _ _ _ (k .before .is-sound .ensures) (k .if1 .left)
+
+shaped : (k : tie.Else1) → Shaped (lent k)
+shaped k = sound-shaped (lent k) (not-false (sound (lent k)) (past k))
 
 is-sound-requires : tie.Need-is-sound-requires
 is-sound-requires c κs = search needs
@@ -22,17 +36,19 @@ unfolding judgeEvict
 returns c = refused _ _ _ (turned _ _ _ (c .before .is-sound .ensures) (c .if1 .taken))
 
 params-of-requires : tie.Need-params-of-requires
-params-of-requires c κs = sound-shaped (lentOf (now (c .before .before .before .before .before .before .before .before .before .args .fixed)) (now (c .before .before .before .before .before .before .before .before .before .args .marks)) (now (c .before .before .before .before .before .before .before .before .before .args .log)) (now (c .before .before .before .before .before .before .before .before .before .args .stored)) (now (c .before .before .before .before .before .before .before .before .before .args .tables)) (now (c .before .before .before .before .before .before .before .before .before .args .online)) (now (c .before .before .before .before .before .before .before .before .before .args .pool))) (so _ _ (c .before .is-sound .ensures) (c .if1 .left)) .sized .fixed
+params-of-requires c κs = shaped c .sized .fixed
 
 entry-of-requires : tie.Need-entry-of-requires
-entry-of-requires c κs = omega (arith, sound-shaped (lentOf (now (c .before .before .before .before .before .before .before .before .before .before .args .fixed)) (now (c .before .before .before .before .before .before .before .before .before .before .args .marks)) (now (c .before .before .before .before .before .before .before .before .before .before .args .log)) (now (c .before .before .before .before .before .before .before .before .before .before .args .stored)) (now (c .before .before .before .before .before .before .before .before .before .before .args .tables)) (now (c .before .before .before .before .before .before .before .before .before .before .args .online)) (now (c .before .before .before .before .before .before .before .before .before .before .args .pool))) (so _ _ (c .before .before .is-sound .ensures) (c .before .if1 .left)), c .params-of .ensures)
+entry-of-requires c κs = omega (arith, shaped (c .before), c .params-of .ensures)
 
 may-evict-requires : tie.Need-may-evict-requires
 may-evict-requires c κs = search needs
 
 returns-2 : tie.Need-returns-2
 unfolding judgeEvict
-returns-2 c = passed _ _ _ _ (turned _ _ _ (c .before .before .before .before .is-sound .ensures) (c .before .before .before .if1 .left)) (c .may-evict .ensures ∙ (λ i. mayEvict (c .before .before .params-of .ensures .1 i) ((c .before .entry-of .ensures ∙ ap (λ (f : ℕ). getD (now (c .before .before .before .before .before .before .before .before .before .before .before .before .args .tables)) (entryAt f (c .before .before .before .before .before .before .before .before .before .before .before .before .args .p)) 0) (c .before .before .params-of .ensures .2)) i) (c .before .before .before .before .before .before .before .before .before .before .before .before .args .p)))
+returns-2 c =
+    passed _ _ _ _ (past (c .before .before .before))
+    (rw (c .before .before .params-of .ensures .1, c .before .entry-of .ensures, c .before .before .params-of .ensures .2) at (c .may-evict .ensures))
 
 pub judge-evict-spec : {M : Type 1} → statement M
 judge-evict-spec =

@@ -1,17 +1,32 @@
 -- `verdict::judge_read` meets its contract: the check first, then the case of `judgeRead` that the call's own tests pick.
-use Rattle.word.proofs.Tests.{so}
-use Rattle.judge.proofs.Laws.{turned}
+use borrow.Author.Tests.{not-false}
+use native.Mathlib.Omega.{arith}
+use mathlib.Core.Path.{_≡_}
+use mathlib.Core.Bool.{false, not}
+use denote.Ref.{now}
+use Rattle.rules.specs.Lent.{Lent, lentOf}
+use Rattle.rules.specs.Sound.{sound}
+use Rattle.rules.specs.Shape.{Shaped}
+use Rattle.rules.specs.Calls.{judgeRead}
 use Rattle.rules.proofs.Verdicts.{refused, passed}
 use Rattle.sound.proofs.Laws.{sound-shaped}
-use Rattle.rules.specs.Lent.{lentOf}
-use denote.Ref.{now}
-use mathlib.Core.Path.{_∙_}
-use native.Mathlib.Omega.{arith}
-use Rattle.record.specs.Rows.{rows}
-use Rattle.rules.specs.Calls.{mayRead, judgeRead}
+use Rattle.judge.proofs.Laws.{turned}
 use borrow.Author.Needs.{needs}
 use Rattle.verdict.proofs.judge_read.Statement.{statement}
 use Rattle.verdict.proofs.judge_read.Tie as tie
+
+-- the lent bytes at entry
+abbrev lent : tie.Else1 → Lent
+lent k =
+    let a = k .before .before .before .before .before .before .before .before .before .args in
+    lentOf (now (a .fixed)) (now (a .marks)) (now (a .log)) (now (a .stored)) (now (a .tables)) (now (a .online)) (now (a .pool))
+
+-- past the check they are sound, and so have their shape
+past : (k : tie.Else1) → not (sound (lent k)) ≡ false
+past k = turned _ _ _ (k .before .is-sound .ensures) (k .if1 .left)
+
+shaped : (k : tie.Else1) → Shaped (lent k)
+shaped k = sound-shaped (lent k) (not-false (sound (lent k)) (past k))
 
 is-sound-requires : tie.Need-is-sound-requires
 is-sound-requires c κs = search needs
@@ -21,17 +36,19 @@ unfolding judgeRead
 returns c = refused _ _ _ (turned _ _ _ (c .before .is-sound .ensures) (c .if1 .taken))
 
 params-of-requires : tie.Need-params-of-requires
-params-of-requires c κs = sound-shaped (lentOf (now (c .before .before .before .before .before .before .before .before .before .args .fixed)) (now (c .before .before .before .before .before .before .before .before .before .args .marks)) (now (c .before .before .before .before .before .before .before .before .before .args .log)) (now (c .before .before .before .before .before .before .before .before .before .args .stored)) (now (c .before .before .before .before .before .before .before .before .before .args .tables)) (now (c .before .before .before .before .before .before .before .before .before .args .online)) (now (c .before .before .before .before .before .before .before .before .before .args .pool))) (so _ _ (c .before .is-sound .ensures) (c .if1 .left)) .sized .fixed
+params-of-requires c κs = shaped c .sized .fixed
 
 load-requires : tie.Need-load-requires
-load-requires c κs = omega (arith, sound-shaped (lentOf (now (c .before .before .before .before .before .before .before .before .before .before .args .fixed)) (now (c .before .before .before .before .before .before .before .before .before .before .args .marks)) (now (c .before .before .before .before .before .before .before .before .before .before .args .log)) (now (c .before .before .before .before .before .before .before .before .before .before .args .stored)) (now (c .before .before .before .before .before .before .before .before .before .before .args .tables)) (now (c .before .before .before .before .before .before .before .before .before .before .args .online)) (now (c .before .before .before .before .before .before .before .before .before .before .args .pool))) (so _ _ (c .before .before .is-sound .ensures) (c .before .if1 .left)))
+load-requires c κs = omega (arith, shaped (c .before))
 
 may-read-requires : tie.Need-may-read-requires
-may-read-requires c κs = omega (arith, sound-shaped (lentOf (now (c .before .before .before .before .before .before .before .before .before .before .before .args .fixed)) (now (c .before .before .before .before .before .before .before .before .before .before .before .args .marks)) (now (c .before .before .before .before .before .before .before .before .before .before .before .args .log)) (now (c .before .before .before .before .before .before .before .before .before .before .before .args .stored)) (now (c .before .before .before .before .before .before .before .before .before .before .before .args .tables)) (now (c .before .before .before .before .before .before .before .before .before .before .before .args .online)) (now (c .before .before .before .before .before .before .before .before .before .before .before .args .pool))) (so _ _ (c .before .before .before .is-sound .ensures) (c .before .before .if1 .left)), c .load .ensures .0)
+may-read-requires c κs = omega (arith, shaped (c .before .before), c .load .ensures .0)
 
 returns-2 : tie.Need-returns-2
 unfolding judgeRead
-returns-2 c = passed _ _ _ _ (turned _ _ _ (c .before .before .before .before .is-sound .ensures) (c .before .before .before .if1 .left)) (c .may-read .ensures ∙ (λ i. mayRead (c .before .before .params-of .ensures .0 i) (c .before .before .params-of .ensures .1 i) (now (c .before .before .before .before .before .before .before .before .before .before .before .before .args .tables)) (rows 19 (c .before .load .ensures .0 i) (now (c .before .before .before .before .before .before .before .before .before .before .before .before .args .online)) 0) (c .before .before .before .before .before .before .before .before .before .before .before .before .args .room) (c .before .before .before .before .before .before .before .before .before .before .before .before .args .x) (c .before .before .before .before .before .before .before .before .before .before .before .before .args .p) (c .before .before .before .before .before .before .before .before .before .before .before .before .args .offset) (c .before .before .before .before .before .before .before .before .before .before .before .before .args .w)))
+returns-2 c =
+    passed _ _ _ _ (past (c .before .before .before))
+    (rw (c .before .before .params-of .ensures .0, c .before .before .params-of .ensures .1, c .before .load .ensures .0) at (c .may-read .ensures))
 
 pub judge-read-spec : {M : Type 1} → statement M
 judge-read-spec =

@@ -1,17 +1,31 @@
 -- `verdict::judge_restart` meets its contract: the check first, then the case of `judgeRestart` that the call's own tests pick.
-use Rattle.word.proofs.Tests.{so}
-use Rattle.judge.proofs.Laws.{turned}
-use Rattle.rules.proofs.Verdicts.{refused, passed}
-use Rattle.rules.specs.Lent.{lentOf}
-use denote.Ref.{now}
-use mathlib.Core.Path.{refl, subst₂}
-use Rattle.durable.proofs.Laws.{durable-sized, durable-logged, durable-log-records}
-use borrow.Author.Tests.{lt-ltb, le-ltb}
 use Prim.Native.Nat.{ℕ, _<_, _≤_}
+use mathlib.Core.Path.{_≡_, refl, subst₂}
+use mathlib.Core.Bool.{true, false, not}
+use denote.Ref.{now}
+use borrow.Author.Tests.{lt-ltb, le-ltb, not-false}
+use Rattle.rules.specs.Lent.{Lent, lentOf}
+use Rattle.rules.specs.Sound.{soundDurable}
 use Rattle.rules.specs.Calls.{judgeRestart}
+use Rattle.rules.proofs.Verdicts.{refused, passed}
+use Rattle.durable.proofs.Laws.{durable-sized, durable-logged, durable-log-records}
+use Rattle.judge.proofs.Laws.{turned}
 use borrow.Author.Needs.{needs}
 use Rattle.verdict.proofs.judge_restart.Statement.{statement}
 use Rattle.verdict.proofs.judge_restart.Tie as tie
+
+-- the lent bytes at entry
+abbrev lent : tie.Else1 → Lent
+lent k =
+    let a = k .before .before .before .before .before .before .before .before .before .args in
+    lentOf (now (a .fixed)) (now (a .marks)) (now (a .log)) (now (a .stored)) (now (a .tables)) (now (a .online)) (now (a .pool))
+
+-- past the check the durable part is sound
+past : (k : tie.Else1) → not (soundDurable (lent k)) ≡ false
+past k = turned _ _ _ (k .before .sound-durable .ensures) (k .if1 .left)
+
+durable : (k : tie.Else1) → soundDurable (lent k) ≡ true
+durable k = not-false (soundDurable (lent k)) (past k)
 
 sound-durable-requires : tie.Need-sound-durable-requires
 sound-durable-requires c κs = search needs
@@ -21,18 +35,25 @@ unfolding judgeRestart
 returns c = refused _ _ _ (turned _ _ _ (c .before .sound-durable .ensures) (c .if1 .taken))
 
 params-of-requires : tie.Need-params-of-requires
-params-of-requires c κs = durable-sized (lentOf (now (c .before .before .before .before .before .before .before .before .before .args .fixed)) (now (c .before .before .before .before .before .before .before .before .before .args .marks)) (now (c .before .before .before .before .before .before .before .before .before .args .log)) (now (c .before .before .before .before .before .before .before .before .before .args .stored)) (now (c .before .before .before .before .before .before .before .before .before .args .tables)) (now (c .before .before .before .before .before .before .before .before .before .args .online)) (now (c .before .before .before .before .before .before .before .before .before .args .pool))) (so _ _ (c .before .sound-durable .ensures) (c .if1 .left)) .fixed
+params-of-requires c κs = durable-sized (lent c) (durable c) .fixed
 
 count-entering-requires : tie.Need-count-entering-requires
-count-entering-requires c κs = (durable-sized (lentOf (now (c .before .before .before .before .before .before .before .before .before .before .args .fixed)) (now (c .before .before .before .before .before .before .before .before .before .before .args .marks)) (now (c .before .before .before .before .before .before .before .before .before .before .args .log)) (now (c .before .before .before .before .before .before .before .before .before .before .args .stored)) (now (c .before .before .before .before .before .before .before .before .before .before .args .tables)) (now (c .before .before .before .before .before .before .before .before .before .before .args .online)) (now (c .before .before .before .before .before .before .before .before .before .before .args .pool))) (so _ _ (c .before .before .sound-durable .ensures) (c .before .if1 .left)), durable-logged (lentOf (now (c .before .before .before .before .before .before .before .before .before .before .args .fixed)) (now (c .before .before .before .before .before .before .before .before .before .before .args .marks)) (now (c .before .before .before .before .before .before .before .before .before .before .args .log)) (now (c .before .before .before .before .before .before .before .before .before .before .args .stored)) (now (c .before .before .before .before .before .before .before .before .before .before .args .tables)) (now (c .before .before .before .before .before .before .before .before .before .before .args .online)) (now (c .before .before .before .before .before .before .before .before .before .before .args .pool))) (so _ _ (c .before .before .sound-durable .ensures) (c .before .if1 .left)) .0, durable-logged (lentOf (now (c .before .before .before .before .before .before .before .before .before .before .args .fixed)) (now (c .before .before .before .before .before .before .before .before .before .before .args .marks)) (now (c .before .before .before .before .before .before .before .before .before .before .args .log)) (now (c .before .before .before .before .before .before .before .before .before .before .args .stored)) (now (c .before .before .before .before .before .before .before .before .before .before .args .tables)) (now (c .before .before .before .before .before .before .before .before .before .before .args .online)) (now (c .before .before .before .before .before .before .before .before .before .before .args .pool))) (so _ _ (c .before .before .sound-durable .ensures) (c .before .if1 .left)) .1, durable-log-records (lentOf (now (c .before .before .before .before .before .before .before .before .before .before .args .fixed)) (now (c .before .before .before .before .before .before .before .before .before .before .args .marks)) (now (c .before .before .before .before .before .before .before .before .before .before .args .log)) (now (c .before .before .before .before .before .before .before .before .before .before .args .stored)) (now (c .before .before .before .before .before .before .before .before .before .before .args .tables)) (now (c .before .before .before .before .before .before .before .before .before .before .args .online)) (now (c .before .before .before .before .before .before .before .before .before .before .args .pool))) (so _ _ (c .before .before .sound-durable .ensures) (c .before .if1 .left)))
+count-entering-requires c κs =
+    let k = c .before in
+    let logged = durable-logged (lent k) (durable k) in
+    (durable-sized (lent k) (durable k), logged .0, logged .1, durable-log-records (lent k) (durable k))
 
 returns-2 : tie.Need-returns-2
 unfolding judgeRestart
-returns-2 c = passed _ _ _ _ (turned _ _ _ (c .before .before .before .before .sound-durable .ensures) (c .before .before .before .if1 .left)) (refused _ _ _ (lt-ltb _ _ (subst₂ (λ (a b : ℕ). a < b) (c .before .before .params-of .ensures .3) (c .before .count-entering .ensures) (c .if2 .taken))))
+returns-2 c =
+    passed _ _ _ _ (past (c .before .before .before))
+    (refused _ _ _ (lt-ltb _ _ (subst₂ (λ (a b : ℕ). a < b) (c .before .before .params-of .ensures .3) (c .before .count-entering .ensures) (c .if2 .taken))))
 
 returns-3 : tie.Need-returns-3
 unfolding judgeRestart
-returns-3 c = passed _ _ _ _ (turned _ _ _ (c .before .before .before .before .sound-durable .ensures) (c .before .before .before .if1 .left)) (passed _ _ _ _ (le-ltb _ _ (subst₂ (λ (a b : ℕ). a ≤ b) (c .before .count-entering .ensures) (c .before .before .params-of .ensures .3) (c .if2 .left))) refl)
+returns-3 c =
+    passed _ _ _ _ (past (c .before .before .before))
+    (passed _ _ _ _ (le-ltb _ _ (subst₂ (λ (a b : ℕ). a ≤ b) (c .before .count-entering .ensures) (c .before .before .params-of .ensures .3) (c .if2 .left))) refl)
 
 pub judge-restart-spec : {M : Type 1} → statement M
 judge-restart-spec =
