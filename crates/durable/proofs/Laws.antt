@@ -1,5 +1,5 @@
 -- Laws of the turns of the checking loops, of tests joined in a row, of the ranges and the lengths, and what the durable part's soundness gives.
-use Prim.Native.Nat.{ℕ, zero, suc, _+_, _*_, _-_, _/_, _%_, _^_, _≤_, _<_}
+use Prim.Native.Nat.{ℕ, zero, suc, _+_, _*_, _-_, _%_, _^_, _≤_, _<_}
 use native.Mathlib.Omega.{arith}
 use native.Mathlib.Numerals.{add-one}
 use native.Mathlib.Nat.{mul-le-mul}
@@ -9,8 +9,8 @@ use mathlib.Core.List.{List}
 use lib.ListN.{length, getD, take, drop, length-drop, drop-of-length-le}
 use lib.Seq.{drop-cons, take-all}
 use lib.Dec.{eqb, leb, ltb, leb·suc-suc}
-use borrow.Author.Tests.{eqb-true, eqb-false, leb-true, eq-eqb, ne-eqb, le-leb, lt-leb, lt-ltb, le-ltb, ltb-true, ltb-false, not-true, not-false}
-use Rattle.word.proofs.Tests.{and-both, among-four}
+use borrow.Author.Tests.{eqb-true, eqb-false, leb-true, eq-eqb, ne-eqb, le-leb, lt-leb, lt-ltb, le-ltb, ltb-true, ltb-false}
+use Rattle.word.proofs.Tests.{and-both, among-four, so, not-so}
 use Rattle.record.specs.Rows.{rowAt, rows}
 use Rattle.record.proofs.Laws.{at-length}
 use Rattle.record.specs.Record.{pageOf, offsetOf, lengthOf, kindOf, valueOf, isLength, wellFormed}
@@ -48,13 +48,6 @@ and-nine a b c d e f g h i k =
     let y = and-five a b c d e (x .0) in
     (y .0, y .1, y .2, y .3, y .4, x .1, x .2, x .3, x .4)
 
--- what a call that answers a test says, where its answer was negated
-pub refused : {a b : Bool} → a ≡ b → not a ≡ true → b ≡ false
-refused {a} {b} e h = sym e ∙ not-true a h
-
-pub passed : {a b : Bool} → a ≡ b → not a ≡ false → b ≡ true
-passed {a} {b} e h = sym e ∙ not-false a h
-
 -- a loop over n numbers that joins what each test found: none looked at yet, a turn and the end
 pub upTo-none : (b : ℕ → Bool) (n : ℕ) → upTo b (n - 0) 0 ≡ upTo b n 0
 upTo-none b n = let e : n - 0 ≡ n = omega arith in rw e
@@ -80,13 +73,13 @@ module _ (b : List ℕ → Bool) (w : ℕ) (t : List ℕ) (n : ℕ) where
   unfolding rows every
   rows-turn i x p f g inv =
       let e : n - i ≡ suc (n - (i + 1)) = omega arith in
-      rw (e, passed f g) at inv
+      rw (e, so _ _ f g) at inv
 
   pub rows-stop : (i : ℕ) (x : Bool) {r : Bool} → i < n → r ≡ b (rowAt w t i) → not r ≡ true → every b (rows w (n - i) t i) ≡ x → false ≡ x
   unfolding rows every
   rows-stop i x p f g inv =
       let e : n - i ≡ suc (n - (i + 1)) = omega arith in
-      rw (e, refused f g) at inv
+      rw (e, not-so _ _ f g) at inv
 
   pub rows-done : (i : ℕ) (x : Bool) → n ≤ i → every b (rows w (n - i) t i) ≡ x → true ≡ x
   unfolding rows every
@@ -246,28 +239,28 @@ log-found size pages n log a b e f = rw (e, f, rest-lent log (n * 14))
 -- the counts that `sound_marks` goes on with
 pub counts-hold : (last closed n span : ℕ) {r : Bool} → r ≡ soundCounts last closed n span → not r ≡ false → (n ≤ span) × (n ≤ last)
 counts-hold last closed n span f g =
-    let e = and-three (leb n span) (leb n last) (leb (last - n + 1) (closed + 1)) (passed f g) in
+    let e = and-three (leb n span) (leb n last) (leb (last - n + 1) (closed + 1)) (so _ _ f g) in
     (leb-true n span (e .0), leb-true n last (e .1))
 
 -- `sound_marks`: what each check found, of the numbers that were read
 module _ (marks log : List ℕ) (size pages span last closed n : ℕ) (el : last ≡ num 4 marks 0) (ek : closed ≡ num 4 marks 4) (en : n ≡ num 4 marks 8) {r : Bool} (counted : r ≡ soundCounts last closed n span) where
   pub marks-counts : not r ≡ true → false ≡ soundMarks marks log size pages span
   unfolding soundMarks
-  marks-counts h = rw (← el, ← ek, ← en, refused counted h)
+  marks-counts h = rw (← el, ← ek, ← en, not-so _ _ counted h)
 
   module _ (h : not r ≡ false) {t : Bool} (stamped : t ≡ soundStamps marks pages last closed) where
     pub marks-stamps : not t ≡ true → false ≡ soundMarks marks log size pages span
     unfolding soundMarks
-    marks-stamps i = rw (← el, ← ek, ← en, passed counted h, refused stamped i)
+    marks-stamps i = rw (← el, ← ek, ← en, so _ _ counted h, not-so _ _ stamped i)
 
     module _ (i : not t ≡ false) {d : Bool} (dirtied : d ≡ soundDirties marks pages (last - n + 1) closed) where
       pub marks-dirty : not d ≡ true → false ≡ soundMarks marks log size pages span
       unfolding soundMarks
-      marks-dirty j = rw (← el, ← ek, ← en, passed counted h, passed stamped i, refused dirtied j)
+      marks-dirty j = rw (← el, ← ek, ← en, so _ _ counted h, so _ _ stamped i, not-so _ _ dirtied j)
 
       pub marks-log : {x : Bool} → not d ≡ false → x ≡ (every (wellFormed size pages) (rows 14 n log 0) && zeros (drop (n * 14) log)) → x ≡ soundMarks marks log size pages span
       unfolding soundMarks
-      marks-log j k = rw (← el, ← ek, ← en, passed counted h, passed stamped i, passed dirtied j) k
+      marks-log j k = rw (← el, ← ek, ← en, so _ _ counted h, so _ _ stamped i, so _ _ dirtied j) k
 
 -- the ranges as bounds
 between-bounds : (low n high : ℕ) → between low n high ≡ true → (low ≤ n) × (n ≤ high)
@@ -320,7 +313,7 @@ lengths-each s size pages frames room span h =
 -- the two that `sound_marks` asks for
 pub lengths-marks : (s : Lent) (size pages frames room span : ℕ) {r : Bool} → r ≡ exactLengths s size pages frames room span → not r ≡ false → (length (s .durable .marks) ≡ 12 + 8 * pages) × (length (s .durable .log) ≡ 14 * span)
 lengths-marks s size pages frames room span f g =
-    let e = lengths-each s size pages frames room span (passed f g) in
+    let e = lengths-each s size pages frames room span (so _ _ f g) in
     (e .0, e .1)
 
 -- `sound_durable`: what each check found
@@ -341,16 +334,16 @@ module _ (s : Lent) (size pages frames room span : ℕ) (fixed : length (s .dura
   module _ {r : Bool} (within : r ≡ inRange size pages frames room span) where
     pub durable-range : not r ≡ true → false ≡ soundDurable s
     unfolding soundDurable
-    durable-range h = rw (first-clause false (refused within h))
+    durable-range h = rw (first-clause false (not-so _ _ within h))
 
     module _ (h : not r ≡ false) {t : Bool} (exact : t ≡ exactLengths s size pages frames room span) where
       pub durable-lengths : not t ≡ true → false ≡ soundDurable s
       unfolding soundDurable
-      durable-lengths i = rw (first-clause true (passed within h), second-clause false (refused exact i))
+      durable-lengths i = rw (first-clause true (so _ _ within h), second-clause false (not-so _ _ exact i))
 
       pub durable-marks : {x : Bool} → not t ≡ false → x ≡ soundMarks (s .durable .marks) (s .durable .log) size pages span → x ≡ soundDurable s
       unfolding soundDurable soundMarks s3-logged s16-logged s18-first s15-stamps s17-s19-dirty s7-log-records s14-log-zero
-      durable-marks i e = rw (first-clause true (passed within h), second-clause true (passed exact i), ← given .0, ← given .1, ← given .4) e
+      durable-marks i e = rw (first-clause true (so _ _ within h), second-clause true (so _ _ exact i), ← given .0, ← given .1, ← given .4) e
 
 -- what a sound durable part gives
 durable-clauses : (s : Lent) → soundDurable s ≡ true → (s1-parameters s ≡ true) × (s2-lengths s ≡ true) × (s3-logged s ≡ true) × (s16-logged s ≡ true) × (s18-first s ≡ true) × (s15-stamps s ≡ true) × (s17-s19-dirty s ≡ true) × (s7-log-records s ≡ true) × (s14-log-zero s ≡ true)

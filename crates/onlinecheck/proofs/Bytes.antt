@@ -8,14 +8,14 @@ use lib.ListN.{length, getD, set, replicate, length-set, length-replicate}
 use lib.Seq.{getD-set-same, getD-set-other, set-out}
 use lib.Dec.{eqb, leb, ltb}
 use borrow.Author.Tests.{ltb-true, ltb-false, leb-true, leb-false, eqb-true, eqb-false, lt-ltb, le-ltb, le-leb, eq-eqb, ne-eqb, not-true}
-use Rattle.word.proofs.Tests.{and-both}
+use Rattle.word.proofs.Tests.{and-both, so}
 use Rattle.record.specs.Rows.{rowAt, rows, keep, consIf}
 use Rattle.record.specs.Record.{pageOf, offsetOf, lengthOf, ownerOf, numberOf, committed, shareByte, isLength, wellFormed}
 use Rattle.rules.specs.Sound.{every, pairs, upTo, between, apart}
 use Rattle.rules.proofs.Every.{every-kept, every-keep}
 use Rattle.onlinecheck.specs.Online.{owned, pageBelow}
 use Rattle.onlinecheck.specs.Bytes.{openOn, placed, Chain, Linked, Passed, freeByte, markBytes, freeRow, withRow, freeRows, withRows}
-use Rattle.onlinecheck.proofs.Rows.{and-swap, passed, upTo-fail, upTo-turn, upTo-done}
+use Rattle.onlinecheck.proofs.Rows.{and-swap, upTo-fail, upTo-turn, upTo-done}
 use Rattle.onlinecheck.proofs.Laws.{apart-all}
 use Rattle.onlinecheck.proofs.Chains.{chain-none, chain-one, chain-first}
 
@@ -398,7 +398,7 @@ pub place-give : (tables : List ℕ) (size pages last : ℕ) (l : List (List ℕ
 place-give tables size pages last l x z u y s e h =
     let f = every (wellFormed size pages) l in
     let o = every (owned tables last) l in
-    let b = and-both f o (and-both (f && o) z (and-both (f && o && z) u (and-both (f && o && z && u) y (passed e h) .0) .0) .0) in
+    let b = and-both f o (and-both (f && o) z (and-both (f && o && z) u (and-both (f && o && z && u) y (so _ _ e h) .0) .0) .0) in
     place size pages last tables s l (b .0) (b .1)
 
 -- the loop over a row's bytes: those from k on are as they were, and decide as all do

@@ -8,12 +8,11 @@ use lib.ListN.{length, getD, set, replicate, length-set, length-replicate, getD-
 use lib.Seq.{getD-set-same, getD-set-other}
 use lib.Dec.{eqb}
 use borrow.Author.Tests.{eqb-true, eqb-false, ne-eqb, not-false}
-use Rattle.word.proofs.Tests.{and-both}
+use Rattle.word.proofs.Tests.{and-both, so, not-so}
 use Rattle.record.specs.Rows.{rowAt, rows, keep, consIf}
 use Rattle.record.specs.Record.{pageOf, ownerOf, committed}
 use Rattle.rules.specs.Sound.{every, pairs, apart}
 use Rattle.onlinecheck.specs.Bytes.{openOn, Chain, ends, goes, Linked, headsWith, afterWith, freeRow, withRow, freeRows, withRows}
-use Rattle.onlinecheck.proofs.Rows.{passed, failed}
 
 chain-low : {t : List ℕ} {m : ℕ} {a : List ℕ} {low j : ℕ} {l : List (List ℕ)} (down : ℕ) → down ≤ low → Chain t m a low j l → Chain t m a down j l
 chain-low down h (ends e) = ends e
@@ -111,7 +110,7 @@ walk-turn t m after base j i a b x z e h n f g o w = go (w .chain) (w .free) (w 
     go : {low : ℕ} {l : List (List ℕ)} → Chain t m after low j l → freeRows base a l ≡ z → withRows base a l ≡ e → Walk t m after base i b z e
     go (ends k) u v = absurd (omega arith)
     go (goes {l = l} k q c) u v =
-        let y = passed f n in
+        let y = so _ _ f n in
         let d = g (not-false x n) in
         record { low = j + 1; left = l; chain = rw o c; free = rw d (rw y at u); marked = rw d v }
 
@@ -121,7 +120,7 @@ walk-fail t m after base j a b x z e h n f w = (go (w .chain) (w .free), λ k. l
   where
     go : {low : ℕ} {l : List (List ℕ)} → Chain t m after low j l → freeRows base a l ≡ z → false ≡ z
     go (ends k) u = absurd (omega arith)
-    go (goes k q c) u = let y = failed f n in rw y at u
+    go (goes k q c) u = let y = not-so _ _ f n in rw y at u
 
 pub walk-done : (t : List ℕ) (m : ℕ) (after : List ℕ) (base j : ℕ) (a : List ℕ) (z : Bool) (e : List ℕ) → m ≤ j → Walk t m after base j a z e → (true ≡ z) × (true ≡ true → a ≡ e)
 unfolding freeRows withRows

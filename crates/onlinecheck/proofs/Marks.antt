@@ -8,7 +8,7 @@ use lib.ListN.{length, getD, set, replicate, length-set, length-replicate, getD-
 use lib.Seq.{getD-set-same, getD-set-other}
 use lib.Dec.{eqb, leb, ltb}
 use borrow.Author.Tests.{ltb-true, leb-true, eqb-true, eqb-false, lt-ltb, eq-eqb, ne-eqb}
-use Rattle.word.proofs.Tests.{and-both}
+use Rattle.word.proofs.Tests.{and-both, so, not-so}
 use Rattle.record.specs.Part.{part}
 use Rattle.record.specs.Rows.{rowAt, rows, any}
 use Rattle.record.specs.Record.{pageOf, ownerOf, numberOf, committed, bodyOf, onPage, wellFormed}
@@ -17,7 +17,7 @@ use Rattle.rules.specs.Lent.{isDirty}
 use Rattle.rules.specs.Sound.{every, pairs, upTo, between, same, agree}
 use Rattle.onlinecheck.specs.Online.{owned, inLog, otherNumber, entryAgrees, pageBelow}
 use Rattle.onlinecheck.specs.Marks.{markPages, entryMarked, slotted, free, withNumber, allFree}
-use Rattle.onlinecheck.proofs.Rows.{and-swap, every-imp, passed, failed}
+use Rattle.onlinecheck.proofs.Rows.{and-swap, every-imp}
 use Rattle.onlinecheck.proofs.Laws.{formed-page}
 
 -- S12: a page is marked if it was, or if a row is of it
@@ -174,14 +174,14 @@ pub free-fail : (first w m : ℕ) (t : List ℕ) (i : ℕ) (a : List ℕ) (x z :
 unfolding allFree rows
 free-fail first w m t i a x z p h e inv =
     let n : m - i ≡ suc (m - (i + 1)) = omega arith in
-    let f = failed e h in
+    let f = not-so _ _ e h in
     rw (n, f) at inv
 
 pub free-turn : (first w m : ℕ) (t : List ℕ) (i : ℕ) (a b : List ℕ) (x z : Bool) → i < m → not x ≡ false → x ≡ free first a (rowAt w t i) → b ≡ withNumber first a (rowAt w t i) → allFree first (rows w (m - i) t i) a ≡ z → allFree first (rows w (m - (i + 1)) t (i + 1)) b ≡ z
 unfolding allFree rows
 free-turn first w m t i a b x z p h e g inv =
     let n : m - i ≡ suc (m - (i + 1)) = omega arith in
-    let f = passed e h in
+    let f = so _ _ e h in
     rw g (rw (n, f) at inv)
 
 pub free-done : (first w m : ℕ) (t : List ℕ) (i : ℕ) (a : List ℕ) (z : Bool) → m ≤ i → allFree first (rows w (m - i) t i) a ≡ z → true ≡ z
@@ -209,6 +209,6 @@ rows-give tables log size pages last n l x z y p q e h =
     let f = every (wellFormed size pages) l in
     let o = every (owned tables last) l in
     let g = every (inLog log (last - n + 1)) l in
-    let a = and-both (f && o && z) g (and-both (f && o && z && g) y (passed e h) .0) in
+    let a = and-both (f && o && z) g (and-both (f && o && z && g) y (so _ _ e h) .0) in
     let b = and-both f o (and-both (f && o) z (a .0) .0) in
     (formed-page size pages l (b .0), slots tables log (last - n + 1) last n refl p q l (b .1) (a .1))

@@ -4,17 +4,9 @@ use native.Mathlib.Omega.{arith}
 use mathlib.Core.Path.{_≡_, refl, sym, _∙_}
 use mathlib.Core.Bool.{Bool, true, false, not, _&&_, and-true, and-false, and-assoc}
 use mathlib.Core.List.{List, [], _∷_}
-use borrow.Author.Tests.{not-true, not-false}
-use Rattle.word.proofs.Tests.{and-both}
+use Rattle.word.proofs.Tests.{and-both, so, not-so}
 use Rattle.record.specs.Rows.{rowAt, rows}
 use Rattle.rules.specs.Sound.{every, pairs, upTo}
-
--- what a test's branch tells of the test's definition
-pub passed : {x a : Bool} → x ≡ a → not x ≡ false → a ≡ true
-passed {x} {a} e h = sym e ∙ not-false x h
-
-pub failed : {x a : Bool} → x ≡ a → not x ≡ true → a ≡ false
-failed {x} {a} e h = sym e ∙ not-true x h
 
 pub and-swap : (x y u v : Bool) → (x && y && (u && v)) ≡ (x && u && (y && v))
 and-swap true true u v = refl
@@ -59,14 +51,14 @@ pub every-fail : (b : List ℕ → Bool) (w m : ℕ) (t : List ℕ) (i : ℕ) (x
 unfolding every rows
 every-fail b w m t i x z p h e inv =
     let n : m - i ≡ suc (m - (i + 1)) = omega arith in
-    let f = failed e h in
+    let f = not-so _ _ e h in
     rw (n, f) at inv
 
 pub every-turn : (b : List ℕ → Bool) (w m : ℕ) (t : List ℕ) (i : ℕ) (x z : Bool) → i < m → not x ≡ false → x ≡ b (rowAt w t i) → every b (rows w (m - i) t i) ≡ z → every b (rows w (m - (i + 1)) t (i + 1)) ≡ z
 unfolding every rows
 every-turn b w m t i x z p h e inv =
     let n : m - i ≡ suc (m - (i + 1)) = omega arith in
-    let f = passed e h in
+    let f = so _ _ e h in
     rw (n, f) at inv
 
 pub every-done : (b : List ℕ → Bool) (w m : ℕ) (t : List ℕ) (i : ℕ) (z : Bool) → m ≤ i → every b (rows w (m - i) t i) ≡ z → true ≡ z
@@ -81,14 +73,14 @@ pub pairs-fail : (b : List ℕ → List ℕ → Bool) (w m : ℕ) (t : List ℕ)
 unfolding pairs rows
 pairs-fail b w m t i x z p h e inv =
     let n : m - i ≡ suc (m - (i + 1)) = omega arith in
-    let f = failed e h in
+    let f = not-so _ _ e h in
     rw (n, f) at inv
 
 pub pairs-turn : (b : List ℕ → List ℕ → Bool) (w m : ℕ) (t : List ℕ) (i : ℕ) (x z : Bool) → i < m → not x ≡ false → x ≡ every (b (rowAt w t i)) (rows w (m - (i + 1)) t (i + 1)) → pairs b (rows w (m - i) t i) ≡ z → pairs b (rows w (m - (i + 1)) t (i + 1)) ≡ z
 unfolding pairs rows
 pairs-turn b w m t i x z p h e inv =
     let n : m - i ≡ suc (m - (i + 1)) = omega arith in
-    let f = passed e h in
+    let f = so _ _ e h in
     rw (n, f) at inv
 
 pub pairs-done : (b : List ℕ → List ℕ → Bool) (w m : ℕ) (t : List ℕ) (i : ℕ) (z : Bool) → m ≤ i → pairs b (rows w (m - i) t i) ≡ z → true ≡ z
@@ -103,14 +95,14 @@ pub upTo-fail : (b : ℕ → Bool) (m i : ℕ) (x z : Bool) → i < m → not x 
 unfolding upTo
 upTo-fail b m i x z p h e inv =
     let n : m - i ≡ suc (m - (i + 1)) = omega arith in
-    let f = failed e h in
+    let f = not-so _ _ e h in
     rw (n, f) at inv
 
 pub upTo-turn : (b : ℕ → Bool) (m i : ℕ) (x z : Bool) → i < m → not x ≡ false → x ≡ b i → upTo b (m - i) i ≡ z → upTo b (m - (i + 1)) (i + 1) ≡ z
 unfolding upTo
 upTo-turn b m i x z p h e inv =
     let n : m - i ≡ suc (m - (i + 1)) = omega arith in
-    let f = passed e h in
+    let f = so _ _ e h in
     rw (n, f) at inv
 
 pub upTo-done : (b : ℕ → Bool) (m i : ℕ) (z : Bool) → m ≤ i → upTo b (m - i) i ≡ z → true ≡ z

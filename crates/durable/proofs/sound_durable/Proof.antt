@@ -1,11 +1,12 @@
 -- `durable::sound_durable` meets its contract: each way out is the first clause that fails, and the last call decides the rest.
+use Rattle.word.proofs.Tests.{so}
 use borrow.Author.Needs.{needs}
 use native.Mathlib.Nat.{le-trans}
 use lib.Dec.{lit≤}
 use denote.Ref.{now}
 use Rattle.rules.specs.Lent.{lentOf}
 use Rattle.rules.specs.Sound.{inRange}
-use Rattle.durable.proofs.Laws.{passed, ranged, lengths-marks, durable-fixed, durable-range, durable-lengths, durable-marks}
+use Rattle.durable.proofs.Laws.{ranged, lengths-marks, durable-fixed, durable-range, durable-lengths, durable-marks}
 use Rattle.durable.proofs.sound_durable.Statement.{statement}
 use Rattle.durable.proofs.sound_durable.Tie as tie
 
@@ -31,7 +32,7 @@ returns-2 c =
     (c .before .in-range .ensures) (c .if2 .taken)
 
 exact-lengths-requires : tie.Need-exact-lengths-requires
-exact-lengths-requires c κs = passed (c .before .in-range .ensures) (c .if2 .left)
+exact-lengths-requires c κs = so _ _ (c .before .in-range .ensures) (c .if2 .left)
 
 returns-3 : tie.Need-returns-3
 returns-3 c =
@@ -49,7 +50,7 @@ sound-marks-requires c κs =
     let s = lentOf (now (a .fixed)) (now (a .marks)) (now (a .log)) (now (a .stored)) (now (a .tables)) (now (a .online)) (now (a .pool)) in
     let p = c .before .before .before .before .params-of .result in
     let l = lengths-marks s (p .size) (p .pages) (p .frames) (p .room) (p .span) (c .before .exact-lengths .ensures (now (a .fixed))) (c .if3 .left) in
-    let r = ranged (p .size) (p .pages) (p .frames) (p .room) (p .span) (passed {b = inRange (p .size) (p .pages) (p .frames) (p .room) (p .span)} (c .before .before .before .in-range .ensures) (c .before .before .if2 .left)) in
+    let r = ranged (p .size) (p .pages) (p .frames) (p .room) (p .span) (so _ (inRange (p .size) (p .pages) (p .frames) (p .room) (p .span)) (c .before .before .before .in-range .ensures) (c .before .before .if2 .left)) in
     (l .0, l .1, le-trans (lit≤ tt) (r .size-least))
 
 returns-4 : tie.Need-returns-4

@@ -1,4 +1,5 @@
 -- `onlinecheck::sound_online` meets its contract: the rows' clauses, then the others.
+use Rattle.word.proofs.Tests.{so, not-so}
 use borrow.Author.Needs.{needs}
 use denote.Ref.{now}
 use Prim.Native.Nat.{_+_, _*_, _-_}
@@ -6,7 +7,6 @@ use lib.ListN.{drop}
 use Rattle.record.specs.Rows.{rows}
 use Rattle.rules.specs.Sound.{every, zeros}
 use Rattle.onlinecheck.specs.Online.{inLog, aboveStamp, onlineTest}
-use Rattle.onlinecheck.proofs.Rows.{passed, failed}
 use Rattle.onlinecheck.proofs.Marks.{rows-give}
 use Rattle.onlinecheck.proofs.Bytes.{place-give}
 use Rattle.onlinecheck.proofs.sound_online.Statement.{statement}
@@ -17,7 +17,7 @@ sound-rows-requires c κs = search needs
 
 returns : tie.Need-returns
 unfolding onlineTest
-returns c = rw (failed (c .before .sound-rows .ensures) (c .if1 .taken))
+returns c = rw (not-so _ _ (c .before .sound-rows .ensures) (c .if1 .taken))
 
 sub-first : tie.Need-sub-first
 sub-first c = search needs
@@ -38,7 +38,7 @@ sound-ties-requires c κs =
 
 returns-2 : tie.Need-returns-2
 unfolding onlineTest
-returns-2 c = rw (passed (c .before .before .sound-rows .ensures) (c .before .if1 .left)) (c .sound-ties .ensures)
+returns-2 c = rw (so _ _ (c .before .before .sound-rows .ensures) (c .before .if1 .left)) (c .sound-ties .ensures)
 
 pub sound-online-spec : {M : Type 1} → statement M
 sound-online-spec =

@@ -1,9 +1,9 @@
 -- `onlinecheck::sound_ties` meets its contract: each way out by the tests that led there.
+use Rattle.word.proofs.Tests.{so, not-so}
 use borrow.Author.Needs.{needs}
 use denote.Ref.{now}
 use Rattle.record.specs.Rows.{rows}
 use Rattle.onlinecheck.proofs.Marks.{pages-within}
-use Rattle.onlinecheck.proofs.Rows.{passed, failed}
 use Rattle.onlinecheck.proofs.sound_ties.Statement.{statement}
 use Rattle.onlinecheck.proofs.sound_ties.Tie as tie
 
@@ -11,7 +11,7 @@ all-once-requires : tie.Need-all-once-requires
 all-once-requires c κs = search needs
 
 returns : tie.Need-returns
-returns c = rw (failed (c .before .all-once .ensures) (c .if1 .taken))
+returns c = rw (not-so _ _ (c .before .all-once .ensures) (c .if1 .taken))
 
 all-agree-requires : tie.Need-all-agree-requires
 all-agree-requires c κs = search needs
@@ -19,8 +19,8 @@ all-agree-requires c κs = search needs
 returns-2 : tie.Need-returns-2
 returns-2 c =
     rw (
-      passed (c .before .before .before .all-once .ensures) (c .before .before .if1 .left),
-      failed (c .before .all-agree .ensures) (c .if2 .taken),
+      so _ _ (c .before .before .before .all-once .ensures) (c .before .before .if1 .left),
+      not-so _ _ (c .before .all-agree .ensures) (c .if2 .taken),
     )
 
 all-apart-requires : tie.Need-all-apart-requires
@@ -31,8 +31,8 @@ all-apart-requires c κs =
 returns-3 : tie.Need-returns-3
 returns-3 c =
     rw (
-      passed (c .before .before .before .before .all-once .ensures) (c .before .before .before .if1 .left),
-      passed (c .before .before .all-agree .ensures) (c .before .if2 .left),
+      so _ _ (c .before .before .before .before .all-once .ensures) (c .before .before .before .if1 .left),
+      so _ _ (c .before .before .all-agree .ensures) (c .before .if2 .left),
     )
     (c .all-apart .ensures)
 
