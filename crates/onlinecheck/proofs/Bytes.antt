@@ -19,12 +19,6 @@ use Rattle.onlinecheck.proofs.Rows.{and-swap, upTo-fail, upTo-turn, upT
 use Rattle.onlinecheck.proofs.Laws.{apart-all}
 use Rattle.onlinecheck.proofs.Chains.{chain-none, chain-one, chain-first}
 
--- two tests, each of which holds if the other does
-same-test : (x y : Bool) → (x ≡ true → y ≡ true) → (y ≡ true → x ≡ true) → x ≡ y
-same-test true y f g = sym (f refl)
-same-test false true f g = g refl
-same-test false false f g = refl
-
 not-both : (x : Bool) → x ≡ true → x ≡ false → ⊥
 not-both x a b = let z : _≡_ {A = ℕ} 0 1 = cc in omega arith
 

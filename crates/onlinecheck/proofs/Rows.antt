@@ -88,9 +88,6 @@ unfolding pairs rows
 pairs-done b w m t i z p inv = let n : m - i ≡ 0 = omega arith in rw n at inv
 
 -- the same for numbers
-pub upTo-none : (b : ℕ → Bool) (m : ℕ) → upTo b (m - 0) 0 ≡ upTo b m 0
-upTo-none b m = let n : m - 0 ≡ m = omega arith in rw n
-
 pub upTo-fail : (b : ℕ → Bool) (m i : ℕ) (x z : Bool) → i < m → not x ≡ true → x ≡ b i → upTo b (m - i) i ≡ z → false ≡ z
 unfolding upTo
 upTo-fail b m i x z p h e inv =
@@ -108,14 +105,3 @@ upTo-turn b m i x z p h e inv =
 pub upTo-done : (b : ℕ → Bool) (m i : ℕ) (z : Bool) → m ≤ i → upTo b (m - i) i ≡ z → true ≡ z
 unfolding upTo
 upTo-done b m i z p inv = let n : m - i ≡ 0 = omega arith in rw n at inv
-
--- a loop that goes through all numbers and joins their tests: past a number, at the end
-pub upTo-join : (b : ℕ → Bool) (m i : ℕ) (ok x z : Bool) → i < m → x ≡ b i → (ok && upTo b (m - i) i) ≡ z → (ok && x && upTo b (m - (i + 1)) (i + 1)) ≡ z
-unfolding upTo
-upTo-join b m i ok x z p e inv =
-    let n : m - i ≡ suc (m - (i + 1)) = omega arith in
-    rw (and-assoc, e) (rw n at inv)
-
-pub upTo-joined : (b : ℕ → Bool) (m i : ℕ) (ok z : Bool) → m ≤ i → (ok && upTo b (m - i) i) ≡ z → ok ≡ z
-unfolding upTo
-upTo-joined b m i ok z p inv = let n : m - i ≡ 0 = omega arith in rw (n, and-true) at inv
