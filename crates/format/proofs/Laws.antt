@@ -33,7 +33,7 @@ puts-alike (suc w) l k at v h n e =
     let b : at + 1 ≡ suc at = omega arith in
     let m : length (set l at (v % 256)) ≡ length (set k at (v % 256)) = length-set l at (v % 256) ∙ n ∙ sym (length-set k at (v % 256)) in
     let f : take (suc at) (set l at (v % 256)) ≡ take (suc at) (set k at (v % 256)) =
-        take-suc-set l at (v % 256) (omega arith) ∙ ap (λ (x : List ℕ). x ++ (v % 256 ∷ [])) e ∙ sym (take-suc-set k at (v % 256) (omega arith))
+    take-suc-set l at (v % 256) (omega arith) ∙ ap (λ (x : List ℕ). x ++ (v % 256 ∷ [])) e ∙ sym (take-suc-set k at (v % 256) (omega arith))
     in
     rw a (puts-alike w (set l at (v % 256)) (set k at (v % 256)) (at + 1) (v / 256) (rw length-set (omega arith)) m (rw b f))
 
