@@ -4,11 +4,12 @@ use native.Mathlib.Omega.{arith}
 use native.Mathlib.Nat.{zero-add, suc-add, not-suc-le-zero, le-of-suc-le-suc}
 use native.Mathlib.Numerals.{add-one}
 use mathlib.Core.Path.{_≡_, refl, sym, ap, _∙_}
-use mathlib.Core.List.{List, [], _∷_, _++_, append-nil}
+use mathlib.Core.List.{List, [], _∷_, _++_, append-nil, append-assoc}
 use lib.ListN.{length, take, drop, getD, set, replicate, take-append-drop, length-drop}
-use lib.Seq.{take-length, take-all, length-take-le, getD-append-add, getD-drop}
+use lib.Seq.{take-length, take-all, take-add, drop-drop, length-take-le, getD-append-add, getD-drop}
 use lib.ListN.{drop-of-length-le, length-set}
 use Rattle.record.specs.Part.{part, withPart}
+use Rattle.record.proofs.Parts.{length-part, with-take, with-drop}
 
 -- `copy`: the first i bytes are copied
 copy-suc : (i : ℕ) (s d : List ℕ) → i < length s → length s ≤ length d → set (take i s ++ drop i d) i (getD s i 0) ≡ take (suc i) s ++ drop (suc i) d
@@ -106,18 +107,42 @@ lent-length a k l h =
     let g : k ≤ length (drop a l) = rw (length-drop a l) (omega arith) in
     ap (λ (n : ℕ). length (take n (drop a l))) d ∙ length-take-le k (drop a l) g
 
--- `slide_row`: what goes by way of another list r of as many bytes is the part itself
-pub slid-row : (from to : ℕ) (l z r ys : List ℕ) → to ≤ from → from + 19 ≤ length l → length z ≡ 19
-    → r ≡ take (from + 19 - from) (drop from l) ++ drop (length (take (from + 19 - from) (drop from l))) z
-    → ys ≡ r ++ drop (length r) (take (to + 19 - to) (drop to l)) → ys ≡ part from 19 l
-slid-row from to l z r ys h g k e q =
-    let s : List ℕ = take (from + 19 - from) (drop from l) in
-    let p : List ℕ = take (to + 19 - to) (drop to l) in
-    let ls : length s ≡ 19 = lent-length from 19 l g in
-    let gt : to + 19 ≤ length l = omega arith in
-    let lp : length p ≡ 19 = lent-length to 19 l gt in
+-- `slide_row`, `slide_block`: what goes by way of another list r of as many bytes is the part itself
+pub slid-by : (w from to : ℕ) (l z r ys : List ℕ) → to ≤ from → from + w ≤ length l → length z ≡ w
+    → r ≡ take (from + w - from) (drop from l) ++ drop (length (take (from + w - from) (drop from l))) z
+    → ys ≡ r ++ drop (length r) (take (to + w - to) (drop to l)) → ys ≡ part from w l
+slid-by w from to l z r ys h g k e q =
+    let s : List ℕ = take (from + w - from) (drop from l) in
+    let p : List ℕ = take (to + w - to) (drop to l) in
+    let ls : length s ≡ w = lent-length from w l g in
+    let gt : to + w ≤ length l = omega arith in
+    let lp : length p ≡ w = lent-length to w l gt in
     let lz : length z ≤ length s = omega arith in
     let rs : r ≡ s = e ∙ ap (λ (x : List ℕ). s ++ x) (drop-of-length-le z lz) ∙ append-nil s in
     let le : length p ≤ length r = omega (arith, ap length rs) in
-    let d : from + 19 - from ≡ 19 = omega arith in
+    let d : from + w - from ≡ w = omega arith in
     q ∙ ap (λ (x : List ℕ). r ++ x) (drop-of-length-le p le) ∙ append-nil r ∙ rs ∙ ap (λ (n : ℕ). take n (drop from l)) d
+
+-- `slide`: bytes moved after the first i, which are moved already
+pub slide-join : (l s t : List ℕ) (from to i k : ℕ) → to ≤ from → from + (i + k) ≤ length l → s ≡ withPart to i l (part from i l)
+    → t ≡ withPart (to + i) k s (part (from + i) k s) → t ≡ withPart to (i + k) l (part from (i + k) l)
+slide-join l s t from to i k p h e f =
+    let m : length (part from i l) ≡ i = length-part from i l (omega arith) in
+    let front : take (to + i) s ≡ take to l ++ part from i l = with-take to i (to + i) l s (part from i l) (omega arith) m refl e in
+    let back : drop (to + i) s ≡ drop (to + i) l = with-drop to i (to + i) l s (part from i l) (omega arith) m refl e in
+    let n : to + i + (from - to) ≡ from + i = omega arith in
+    let read : drop (from + i) s ≡ drop (from + i) l =
+        ap (λ (x : ℕ). drop x s) (sym n) ∙ sym (drop-drop (from - to) (to + i) s) ∙ ap (λ (x : List ℕ). drop (from - to) x) back
+        ∙ drop-drop (from - to) (to + i) l ∙ ap (λ (x : ℕ). drop x l) n
+    in
+    let both : part from (i + k) l ≡ part from i l ++ part (from + i) k l =
+        take-add i k (drop from l) ∙ ap (λ (x : List ℕ). part from i l ++ take k x) (drop-drop i from l)
+    in
+    let rest : drop k (drop (to + i) l) ≡ drop (i + k) (drop to l) = ap (λ (x : List ℕ). drop k x) (sym (drop-drop i to l)) ∙ drop-drop k i (drop to l) in
+    f ∙ rw (front, back, read, rest, both) (append-assoc (take to l) (part from i l) (part (from + i) k l ++ drop (i + k) (drop to l)) ∙ ap (λ (x : List ℕ). take to l ++ x) (sym (append-assoc (part from i l) (part (from + i) k l) (drop (i + k) (drop to l)))))
+
+pub slide-most : (l s t : List ℕ) (from to i n : ℕ) → to ≤ from → from + n ≤ length l → i ≤ n → s ≡ withPart to i l (part from i l)
+    → t ≡ withPart (to + i) (n - i) s (part (from + i) (n - i) s) → t ≡ withPart to n l (part from n l)
+slide-most l s t from to i n p h q e f =
+    let m : i + (n - i) ≡ n = omega arith in
+    rw m at (slide-join l s t from to i (n - i) p (omega arith) e f)

@@ -36,6 +36,30 @@ pub fn copy(d: &mut [u8], s: &[u8])
     }
 }
 
+// The n bytes at a place moved down to another, one by one; the two may overlap.
+fn slide_bytes(s: &mut [u8], from: usize, to: usize, n: usize)
+    requires { ⌜ (to ≤ from) × (from + n ≤ length (now s)) ⌝ }
+    ensures { λ r. ⌜ now (s .exit) ≡ withPart to n (now (s .entry)) (part from n (now (s .entry))) ⌝ }
+{
+    let mut i = 0;
+    while i < n {
+        s[to + i] = s[from + i];
+        i += 1;
+    }
+}
+
+// 64 bytes moved down. A copy stands between, so that they can move as words.
+fn slide_block(s: &mut [u8], from: usize, to: usize)
+    requires { ⌜ (to ≤ from) × (from + 64 ≤ length (now s)) ⌝ }
+    ensures { λ r. ⌜ now (s .exit) ≡ withPart to 64 (now (s .entry)) (part from 64 (now (s .entry))) ⌝ }
+{
+    let mut block = [0u8; 64];
+    let f = from + 64;
+    copy(&mut block, &s[from..f]);
+    let e = to + 64;
+    copy(&mut s[to..e], &block);
+}
+
 // The n bytes at a place moved down to another; the two may overlap. Where they are the same, nothing is written.
 pub fn slide(s: &mut [u8], from: usize, to: usize, n: usize)
     requires { ⌜ (to ≤ from) × (from + n ≤ length (now s)) ⌝ }
@@ -45,13 +69,14 @@ pub fn slide(s: &mut [u8], from: usize, to: usize, n: usize)
         return;
     }
     let mut i = 0;
-    while i < n {
-        s[to + i] = s[from + i];
-        i += 1;
+    while 64 <= n - i {
+        slide_block(s, from + i, to + i);
+        i += 64;
     }
+    slide_bytes(s, from + i, to + i, n - i);
 }
 
-// An online row moved down as `slide` does. A copy stands between, so that its bytes can move as words.
+// An online row moved down as `slide` does, by way of a copy.
 pub fn slide_row(s: &mut [u8], from: usize, to: usize)
     requires { ⌜ (to ≤ from) × (from + 19 ≤ length (now s)) ⌝ }
     ensures { λ r. ⌜ now (s .exit) ≡ withPart to 19 (now (s .entry)) (part from 19 (now (s .entry))) ⌝ }

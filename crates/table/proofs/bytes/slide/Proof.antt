@@ -1,9 +1,10 @@
--- Bytes that stay are as they were. Else the first i bytes are moved; each is read before it is written over.
+-- Bytes that stay are as they were. Else the first i bytes are moved, in blocks, and then the rest.
 use Prim.Native.Nat.{_-_, _≤_}
+use native.Mathlib.Omega.{arith}
 use mathlib.Core.Path.{_≡_, refl}
 use lib.ListN.{length}
 use Rattle.record.specs.Part.{part, withPart}
-use Rattle.table.proofs.Moves.{slide-stays, slide-start, slide-turn, slide-end}
+use Rattle.table.proofs.Moves.{slide-stays, slide-start, slide-join, slide-most}
 use denote.Ref.{now}
 use borrow.Author.Needs.{needs}
 use Rattle.table.proofs.bytes.slide.Statement.{statement}
@@ -16,22 +17,26 @@ abbrev μ-loop : tie.MeasureT-loop
 μ-loop s₀ from to n i₀ s i = n - i
 
 returns : tie.Need-returns Inv-loop μ-loop
-returns c = slide-stays (now (c .before .args .s)) (c .before .args .from) (c .before .args .to) (c .before .args .n) (c .if1 .taken)
+returns c =
+    let a = c .before .before .args in
+    slide-stays (now (a .s)) (a .from) (a .to) (a .n) (c .if1 .taken)
 
 loop-holds : tie.Need-loop-holds Inv-loop μ-loop
-loop-holds c = (search needs, slide-start _ (c .before .args .from) (c .before .args .to), refl)
+loop-holds c =
+    let a = c .before .before .args in
+    (search needs, slide-start (now (a .s)) (a .from) (a .to), refl)
 
-add-s : tie.Need-add-s Inv-loop μ-loop
-add-s c = search needs
+sub-loop : tie.Need-sub-loop Inv-loop μ-loop
+sub-loop c = search needs
 
-slice-read-s : tie.Need-slice-read-s Inv-loop μ-loop
-slice-read-s c = search needs
+add-slide-block : tie.Need-add-slide-block Inv-loop μ-loop
+add-slide-block c = search needs
 
-add-s-2 : tie.Need-add-s-2 Inv-loop μ-loop
-add-s-2 c = search needs
+add-slide-block-2 : tie.Need-add-slide-block-2 Inv-loop μ-loop
+add-slide-block-2 c = search needs
 
-slice-write-s : tie.Need-slice-write-s Inv-loop μ-loop
-slice-write-s c = search needs
+slide-block-requires : tie.Need-slide-block-requires Inv-loop μ-loop
+slide-block-requires c κs = search needs
 
 add-i : tie.Need-add-i Inv-loop μ-loop
 add-i c = search needs
@@ -40,13 +45,34 @@ loop-less : tie.Need-loop-less Inv-loop μ-loop
 loop-less c = search needs
 
 loop-again : tie.Need-loop-again Inv-loop μ-loop
-loop-again c = (search needs, slide-turn (now (c .before .before .before .before .args .s)) _ _ _ _ _ (c .before .before .before .before .pre .0) (c .before .before .before .before .pre .1) (c .before .loop-test .taken) (c .before .before .loop .inv .1), search needs)
+loop-again c =
+    let start = c .before .before .before .before .before .before .before .before in
+    let a = start .args in
+    let at = c .before .before .before .before .before .loop in
+    let test = c .before .before .before .before .loop-test in
+    (search needs, slide-join (now (a .s)) (at .s) _ (a .from) (a .to) (at .i) 64 (start .pre .0) (omega (arith, start .pre .1, test .taken)) (at .inv .1) (c .before .before .slide-block .ensures), search needs)
+
+add-slide-bytes : tie.Need-add-slide-bytes Inv-loop μ-loop
+add-slide-bytes c = search needs
+
+add-slide-bytes-2 : tie.Need-add-slide-bytes-2 Inv-loop μ-loop
+add-slide-bytes-2 c = search needs
+
+sub-slide-bytes : tie.Need-sub-slide-bytes Inv-loop μ-loop
+sub-slide-bytes c = search needs
+
+slide-bytes-requires : tie.Need-slide-bytes-requires Inv-loop μ-loop
+slide-bytes-requires c κs = search needs
 
 same-length : tie.Need-same-length Inv-loop μ-loop
 same-length c = search needs
 
 returns-2 : tie.Need-returns-2 Inv-loop μ-loop
-returns-2 c = slide-end (now (c .before .before .before .args .s)) _ (c .before .before .before .args .from) (c .before .before .before .args .to) _ _ (c .before .loop .inv .0) (c .loop-test .left) (c .before .loop .inv .1)
+returns-2 c =
+    let start = c .before .before .before .before .before .before .before .before in
+    let a = start .args in
+    let at = c .before .before .before .before .before .loop in
+    slide-most (now (a .s)) (at .s) _ (a .from) (a .to) (at .i) (a .n) (start .pre .0) (start .pre .1) (at .inv .0) (at .inv .1) (c .before .before .slide-bytes .ensures)
 
 pub slide-spec : {M : Type 1} → statement M
 slide-spec =
@@ -56,12 +82,16 @@ slide-spec =
     μ-loop
     returns
     loop-holds
-    add-s
-    slice-read-s
-    add-s-2
-    slice-write-s
+    sub-loop
+    add-slide-block
+    add-slide-block-2
+    slide-block-requires
     add-i
     loop-less
     loop-again
+    add-slide-bytes
+    add-slide-bytes-2
+    sub-slide-bytes
+    slide-bytes-requires
     same-length
     returns-2)

@@ -3,7 +3,7 @@ use Prim.Native.Nat.{_+_}
 use mathlib.Core.Path.{refl}
 use lib.ListN.{replicate}
 use denote.Ref.{now}
-use Rattle.table.proofs.Moves.{slide-stays, slid-row, lent-back}
+use Rattle.table.proofs.Moves.{slide-stays, slid-by, lent-back}
 use borrow.Author.Needs.{needs}
 use Rattle.table.proofs.bytes.slide_row.Statement.{statement}
 use Rattle.table.proofs.bytes.slide_row.Tie as tie
@@ -56,7 +56,7 @@ returns-2 c =
     let a = s .args in
     let k = c .before .before .before .before .before .before .copy in
     lent-back (a .to) (a .to + 19) 19 (now (a .s)) _ _ refl
-    (slid-row (a .from) (a .to) (now (a .s)) (replicate 19 0) (k .last .0) _ (s .pre .0) (s .pre .1) refl (k .ensures) (c .before .before .copy2 .ensures))
+    (slid-by 19 (a .from) (a .to) (now (a .s)) (replicate 19 0) (k .last .0) _ (s .pre .0) (s .pre .1) refl (k .ensures) (c .before .before .copy2 .ensures))
 
 pub slide-row-spec : {M : Type 1} → statement M
 slide-row-spec =
