@@ -133,20 +133,20 @@ fn plan_for(tables: &[u8], z: Sizes, p: PageNo, s: Survey) -> Plan
     plan_by(s, tables[at])
 }
 
-// The page in place among the stored pages: its frame's bytes, or its committed records folded in. These stand from row `from` on.
+// The page in place among the stored pages: its frame's bytes, or its committed records from row `from` up to row `to` folded in.
 fn write_page(
     stored: &mut [u8],
     size: usize,
     p: PageNo,
     online: &[u8],
     from: usize,
-    m: usize,
+    to: usize,
     pool: &[u8],
     framed: bool,
     frame: usize,
 )
-    requires { ⌜ (p .0 * size + size ≤ length (now stored)) × (frame * size + size ≤ length (now pool)) × (m * 19 ≤ length (now online)) × (from ≤ m) × NoneBefore (committedOn (p .0)) (now online) from ⌝ }
-    ensures { λ r. ⌜ now (stored .exit) ≡ withPage size (p .0) (now (stored .entry)) (cond framed (pageIn size frame (now (pool .entry))) (applied (keep (committedOn (p .0)) (rows 19 m (now (online .entry)) 0)) (pageIn size (p .0) (now (stored .entry))))) ⌝ }
+    requires { ⌜ (p .0 * size + size ≤ length (now stored)) × (frame * size + size ≤ length (now pool)) × (to * 19 ≤ length (now online)) ⌝ }
+    ensures { λ r. ⌜ now (stored .exit) ≡ withPage size (p .0) (now (stored .entry)) (cond framed (pageIn size frame (now (pool .entry))) (applied (keep (committedOn (p .0)) (rows 19 (to - from) (now (online .entry)) from)) (pageIn size (p .0) (now (stored .entry))))) ⌝ }
 {
     let a = p.0 * size;
     let e = a + size;
@@ -156,7 +156,7 @@ fn write_page(
         frames::copy(&mut stored[a..e], &pool[b..d]);
         return;
     }
-    apply::fold(online, from, m, p, true, &mut stored[a..e]);
+    apply::fold(online, from, to, p, true, &mut stored[a..e]);
 }
 
 // The order without the frame, if it is freed.
@@ -231,7 +231,7 @@ fn compact_by(
         p,
         online,
         s.from,
-        z.count,
+        s.to,
         pool,
         plan.framed,
         plan.frame,

@@ -323,7 +323,7 @@ squeeze-more b m o t k j s i inv fit lt se₀ ie₀ =
 -- rows that all stay are passed, and the table is as it was
 pub squeeze-start : (b : List ℕ → Bool) (m : ℕ) (o : List ℕ) {a : ℕ} → NoneBefore b o a → m * 19 ≤ length o → a ≤ m → Squeezing (λ (x : List ℕ). not (b x)) m o o a a
 squeeze-start b m o start fit le = squeeze-none (λ (x : List ℕ). not (b x)) m o
-squeeze-start b m o (pass {a} h e) fit le =
+squeeze-start b m o (pass {m = a} h e) fit le =
     let s : o ≡ cond (not (b (rowAt 19 o a))) (withPart (a * 19) 19 o (rowAt 19 o a)) o = rw e (slide-stays o (a * 19) (a * 19) 19 refl) in
     let i : a + 1 ≡ cond (not (b (rowAt 19 o a))) (a + 1) a = rw e in
     subst (λ (k : ℕ). Squeezing (λ (x : List ℕ). not (b x)) m o o k k) (add-one a)

@@ -247,6 +247,7 @@ pub fn survey(t: &[u8], m: usize, p: PageNo) -> Survey
         least: 0,
         most: 0,
         from: m,
+        to: m,
     };
     let mut i = 0;
     while i < m {
