@@ -13,7 +13,7 @@ use Rattle.record.specs.Rows.{rows, keep, table}
 use Rattle.record.specs.Record.{onPage, committedOn, applied, gone, smallest, greatest}
 use Rattle.record.proofs.Parts.{one-fits}
 use Rattle.rules.proofs.Tables.{entry-below}
-use Rattle.table.specs.Before.{NoneBefore}
+use Rattle.table.specs.Before.{NoneBefore, NoneFrom}
 use Rattle.table.specs.Seen.{Surveyed}
 use Rattle.table.proofs.Laws.{keep-rows-between}
 use Rattle.table.specs.declared.page.Survey.{Survey}
@@ -182,8 +182,8 @@ module _ (fixed marks log stored tables online pool : List ℕ) (p : ℕ) (z : S
         omega (arith, u .within, w .count, y .online),
       )
 
-  pub tables-there : (v : Survey) → Surveyed p (num 2 tables 0) online v → Shaped lent → p < pagesOf lent → (entryAt (z .frames) p < length tables) × (getD tables 2 0 ≤ z .frames) × (z .frames ≤ 64) × (length online ≡ z .room * 19) × (z .count ≤ z .room) × (v .from ≤ z .count) × NoneBefore (committedOn p) online (v .from)
-  tables-there v u w h = let y = w .sized in rw (m .frames, m .room, m .count) (omega arith, w .used, y .frames, omega arith, w .count, omega (arith, u .ordered, u .within), u .from)
+  pub tables-there : (v : Survey) → Surveyed p (num 2 tables 0) online v → Shaped lent → p < pagesOf lent → (entryAt (z .frames) p < length tables) × (getD tables 2 0 ≤ z .frames) × (z .frames ≤ 64) × (length online ≡ z .room * 19) × (z .count ≤ z .room) × (v .from ≤ v .to) × (v .to ≤ z .count) × NoneBefore (committedOn p) online (v .from) × NoneFrom (committedOn p) online (v .to) (z .count)
+  tables-there v u w h = let y = w .sized in rw (m .frames, m .room, m .count) (omega arith, w .used, y .frames, omega arith, w .count, u .ordered, u .within, u .from, u .to)
 
 -- one page is written
 pub writes-done : (s : Lent) (p : ℕ) → 1 ≡ compacted s p .writes
