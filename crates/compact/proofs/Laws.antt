@@ -13,8 +13,9 @@ use Rattle.record.specs.Rows.{rows, keep, table}
 use Rattle.record.specs.Record.{onPage, committedOn, applied, gone, smallest, greatest}
 use Rattle.record.proofs.Parts.{one-fits}
 use Rattle.rules.proofs.Tables.{entry-below}
-use Rattle.table.specs.Before.{NoneBefore}
+use Rattle.table.specs.Before.{NoneBefore, NoneFrom}
 use Rattle.table.specs.Seen.{Surveyed}
+use Rattle.table.proofs.Laws.{keep-rows-between}
 use Rattle.table.specs.declared.page.Survey.{Survey}
 use Rattle.order.specs.Order.{without}
 use Rattle.rules.specs.Lent.{Lent, lentOf, sizeOf, pagesOf, framesOf, roomOf, countOf, stampAt, orderOf, entryAt, entryOf, onlineOf, inFrame, frameOf, pageIn, withPage, withOrder, withCount}
@@ -77,11 +78,11 @@ page-copied l ys pool x a b size framed h e =
     let d′ : b + size - b ≡ size = omega arith in
     rw (h, e, d, d′)
 
-pub page-folded : (l ys x : List ℕ) (rs all : List (List ℕ)) (a size : ℕ) (framed : Bool) → framed ≡ false → rs ≡ all → ys ≡ applied rs (take (a + size - a) (drop a l))
-    → withPart a (a + size - a) l ys ≡ withPart a size l (cond framed x (applied all (part a size l)))
-page-folded l ys x rs all a size framed h k e =
+pub page-folded : (l ys x : List ℕ) (rs : List (List ℕ)) (a size : ℕ) (framed : Bool) → framed ≡ false → ys ≡ applied rs (take (a + size - a) (drop a l))
+    → withPart a (a + size - a) l ys ≡ withPart a size l (cond framed x (applied rs (part a size l)))
+page-folded l ys x rs a size framed h e =
     let d : a + size - a ≡ size = omega arith in
-    rw (h, ← k, e, d)
+    rw (h, e, d)
 
 -- `freed_order`
 pub order-freed : (frees : Bool) (o q x : List ℕ) → frees ≡ true → q ≡ o → q ≡ cond frees o x
@@ -139,10 +140,14 @@ module _ (fixed marks log stored tables online pool : List ℕ) (p : ℕ) (z : S
   unfolding fromFrame compacted
   reads-done = meant .reads
 
-  page-done : (l : List ℕ) → l ≡ withPage (z .size) p stored (cond (r .framed) (pageIn (z .size) (r .frame) pool) (applied (keep (committedOn p) (rows 19 (z .count) online 0)) (pageIn (z .size) p stored)))
+  -- the rows that the survey leaves out hold none to fold in
+  page-done : (v : Survey) → Surveyed p (num 2 tables 0) online v → (l : List ℕ)
+      → l ≡ withPage (z .size) p stored (cond (r .framed) (pageIn (z .size) (r .frame) pool) (applied (keep (committedOn p) (rows 19 (v .to - v .from) online (v .from))) (pageIn (z .size) p stored)))
       → l ≡ withPage (sizeOf lent) p stored (compactedPage lent p)
   unfolding compactedPage
-  page-done l e = e ∙ (rw (m .size, m .count, framed, meant .frame))
+  page-done v u l e =
+      e ∙ ap (λ (rs : List (List ℕ)). withPage (z .size) p stored (cond (r .framed) (pageIn (z .size) (r .frame) pool) (applied rs (pageIn (z .size) p stored)))) (keep-rows-between (committedOn p) online (u .from) (u .to) (u .ordered))
+      ∙ (rw (m .size, framed, meant .frame))
 
   order-done : cond (r .frees) (without (r .frame) (orderOf lent)) (orderOf lent) ≡ compactedOrder lent p
   order-done = order-of lent p (r .frees) (r .frame) frees (meant .frame)
@@ -155,32 +160,30 @@ module _ (fixed marks log stored tables online pool : List ℕ) (p : ℕ) (z : S
   online-done : (l : List ℕ) → l ≡ table 19 (z .room) (keep (λ (x : List ℕ). not (gone false 0 p x)) (rows 19 (z .count) online 0)) → l ≡ table 19 (roomOf lent) (unfolded lent p)
   online-done l e = e ∙ (rw (m .room, m .count))
 
-  pub lent-done : (marks′ stored′ tables′ online′ : List ℕ)
-      → stored′ ≡ withPage (z .size) p stored (cond (r .framed) (pageIn (z .size) (r .frame) pool) (applied (keep (committedOn p) (rows 19 (z .count) online 0)) (pageIn (z .size) p stored)))
+  pub lent-done : (v : Survey) → Surveyed p (num 2 tables 0) online v → (marks′ stored′ tables′ online′ : List ℕ)
+      → stored′ ≡ withPage (z .size) p stored (cond (r .framed) (pageIn (z .size) (r .frame) pool) (applied (keep (committedOn p) (rows 19 (v .to - v .from) online (v .from))) (pageIn (z .size) p stored)))
       → tables′ ≡ withCount (length (keep (λ (x : List ℕ). not (gone false 0 p x)) (rows 19 (z .count) online 0))) (withOrder (z .frames) (cond (r .frees) (without (r .frame) (orderOf lent)) (orderOf lent)) (set tables (entryAt (z .frames) p) (r .entry)))
       → online′ ≡ table 19 (z .room) (keep (λ (x : List ℕ). not (gone false 0 p x)) (rows 19 (z .count) online 0))
       → marks′ ≡ put 4 marks (12 + 4 * p) (r .stamp)
       → lentOf fixed marks′ log stored′ tables′ online′ pool ≡ compacted lent p .lent
   unfolding compacted
-  lent-done marks′ stored′ tables′ online′ es et eo em = λ i. lentOf fixed (f i) log (page-done stored′ es i) (tables-done tables′ et i) (online-done online′ eo i) pool
+  lent-done v u marks′ stored′ tables′ online′ es et eo em = λ i. lentOf fixed (f i) log (page-done v u stored′ es i) (tables-done tables′ et i) (online-done online′ eo i) pool
     where
       f : marks′ ≡ put 4 marks (stampAt p) (greatest 0 (foldable lent p))
       f = em ∙ ap (λ (x : ℕ). put 4 marks (12 + 4 * p) x) (meant .stamp)
 
   -- what the inner functions ask
-  pub page-there : (v : Survey) → Surveyed p (num 2 tables 0) online v → Shaped lent → p < pagesOf lent → (p * z .size + z .size ≤ length stored) × (r .frame * z .size + z .size ≤ length pool) × (z .count * 19 ≤ length online) × (v .from ≤ z .count) × NoneBefore (committedOn p) online (v .from)
+  pub page-there : (v : Survey) → Surveyed p (num 2 tables 0) online v → Shaped lent → p < pagesOf lent → (p * z .size + z .size ≤ length stored) × (r .frame * z .size + z .size ≤ length pool) × (v .to * 19 ≤ length online)
   page-there v u w h =
       let y = w .sized in
       let f : r .frame < framesOf lent = omega (arith, entry-below lent p w h, meant .frame) in (
         rw (m .size) (one-fits p (pagesOf lent) (sizeOf lent) (length stored) h (y .stored)),
         rw (m .size) (one-fits (r .frame) (framesOf lent) (sizeOf lent) (length pool) f (y .pool)),
-        rw (m .count) (omega (arith, w .count, y .online)),
-        rw (m .count) (u .within),
-        u .from,
+        omega (arith, u .within, w .count, y .online),
       )
 
-  pub tables-there : (v : Survey) → Surveyed p (num 2 tables 0) online v → Shaped lent → p < pagesOf lent → (entryAt (z .frames) p < length tables) × (getD tables 2 0 ≤ z .frames) × (z .frames ≤ 64) × (length online ≡ z .room * 19) × (z .count ≤ z .room) × (v .from ≤ z .count) × NoneBefore (committedOn p) online (v .from)
-  tables-there v u w h = let y = w .sized in rw (m .frames, m .room, m .count) (omega arith, w .used, y .frames, omega arith, w .count, u .within, u .from)
+  pub tables-there : (v : Survey) → Surveyed p (num 2 tables 0) online v → Shaped lent → p < pagesOf lent → (entryAt (z .frames) p < length tables) × (getD tables 2 0 ≤ z .frames) × (z .frames ≤ 64) × (length online ≡ z .room * 19) × (z .count ≤ z .room) × (v .from ≤ v .to) × (v .to ≤ z .count) × NoneBefore (committedOn p) online (v .from) × NoneFrom (committedOn p) online (v .to) (z .count)
+  tables-there v u w h = let y = w .sized in rw (m .frames, m .room, m .count) (omega arith, w .used, y .frames, omega arith, w .count, u .ordered, u .within, u .from, u .to)
 
 -- one page is written
 pub writes-done : (s : Lent) (p : ℕ) → 1 ≡ compacted s p .writes

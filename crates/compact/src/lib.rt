@@ -11,7 +11,7 @@ ghost use Rattle.record.specs.Rows.{rows, keep, table};
 ghost use Rattle.record.specs.Record.{onPage, committedOn, applied, gone, greatest};
 ghost use Rattle.order.specs.Order.{without};
 ghost use Rattle.order.specs.Meant.{listOf};
-ghost use Rattle.table.specs.Before.{NoneBefore};
+ghost use Rattle.table.specs.Before.{NoneBefore, NoneFrom};
 ghost use Rattle.table.specs.Seen.{Surveyed};
 ghost use Rattle.rules.specs.Lent.{lentOf, pagesOf, countOf, pageIn, withPage, withOrder, withCount, entryAt};
 ghost use Rattle.rules.specs.Shape.{Shaped};
@@ -133,20 +133,20 @@ fn plan_for(tables: &[u8], z: Sizes, p: PageNo, s: Survey) -> Plan
     plan_by(s, tables[at])
 }
 
-// The page in place among the stored pages: its frame's bytes, or its committed records folded in. These stand from row `from` on.
+// The page in place among the stored pages: its frame's bytes, or its committed records from row `from` up to row `to` folded in.
 fn write_page(
     stored: &mut [u8],
     size: usize,
     p: PageNo,
     online: &[u8],
     from: usize,
-    m: usize,
+    to: usize,
     pool: &[u8],
     framed: bool,
     frame: usize,
 )
-    requires { ⌜ (p .0 * size + size ≤ length (now stored)) × (frame * size + size ≤ length (now pool)) × (m * 19 ≤ length (now online)) × (from ≤ m) × NoneBefore (committedOn (p .0)) (now online) from ⌝ }
-    ensures { λ r. ⌜ now (stored .exit) ≡ withPage size (p .0) (now (stored .entry)) (cond framed (pageIn size frame (now (pool .entry))) (applied (keep (committedOn (p .0)) (rows 19 m (now (online .entry)) 0)) (pageIn size (p .0) (now (stored .entry))))) ⌝ }
+    requires { ⌜ (p .0 * size + size ≤ length (now stored)) × (frame * size + size ≤ length (now pool)) × (to * 19 ≤ length (now online)) ⌝ }
+    ensures { λ r. ⌜ now (stored .exit) ≡ withPage size (p .0) (now (stored .entry)) (cond framed (pageIn size frame (now (pool .entry))) (applied (keep (committedOn (p .0)) (rows 19 (to - from) (now (online .entry)) from)) (pageIn size (p .0) (now (stored .entry))))) ⌝ }
 {
     let a = p.0 * size;
     let e = a + size;
@@ -156,7 +156,7 @@ fn write_page(
         frames::copy(&mut stored[a..e], &pool[b..d]);
         return;
     }
-    apply::fold(online, from, m, p, true, &mut stored[a..e]);
+    apply::fold(online, from, to, p, true, &mut stored[a..e]);
 }
 
 // The order without the frame, if it is freed.
@@ -181,29 +181,38 @@ fn write_entry(tables: &mut [u8], frames: usize, p: PageNo, entry: u8, frees: bo
     frames::save_order(tables, frames, order);
 }
 
-// The page's committed records, which stand from row `from` on, leave the online table.
+// The page's committed records, which stand from row `from` on and before row `to`, leave the online table.
 fn delete_folded(
     tables: &mut [u8],
     online: &mut [u8],
     from: usize,
+    to: usize,
     m: usize,
     room: usize,
     p: PageNo,
 )
-    requires { ⌜ (2 ≤ length (now tables)) × (length (now online) ≡ room * 19) × (m ≤ room) × (from ≤ m) × NoneBefore (committedOn (p .0)) (now online) from ⌝ }
+    requires { ⌜ (2 ≤ length (now tables)) × (length (now online) ≡ room * 19) × (m ≤ room) × (from ≤ to) × (to ≤ m) × NoneBefore (committedOn (p .0)) (now online) from × NoneFrom (committedOn (p .0)) (now online) to m ⌝ }
     ensures { λ r. ⌜ (now (tables .exit) ≡ withCount (length (keep (λ (x : List ℕ). not (gone false 0 (p .0) x)) (rows 19 m (now (online .entry)) 0))) (now (tables .entry))) × (now (online .exit) ≡ table 19 room (keep (λ (x : List ℕ). not (gone false 0 (p .0) x)) (rows 19 m (now (online .entry)) 0))) ⌝ }
 {
-    let k = table::delete(online, from, m, room, false, 0, p);
+    let k = table::delete(online, from, to, m, room, false, 0, p);
     word::store(tables, 0, 2, k as u64);
 }
 
 // The lost part of compact.
-fn compact_lost(tables: &mut [u8], online: &mut [u8], z: Sizes, p: PageNo, from: usize, plan: Plan)
-    requires { ⌜ (entryAt (z .frames) (p .0) < length (now tables)) × (getD (now tables) 2 0 ≤ z .frames) × (z .frames ≤ 64) × (length (now online) ≡ z .room * 19) × (z .count ≤ z .room) × (from ≤ z .count) × NoneBefore (committedOn (p .0)) (now online) from ⌝ }
+fn compact_lost(
+    tables: &mut [u8],
+    online: &mut [u8],
+    z: Sizes,
+    p: PageNo,
+    from: usize,
+    to: usize,
+    plan: Plan,
+)
+    requires { ⌜ (entryAt (z .frames) (p .0) < length (now tables)) × (getD (now tables) 2 0 ≤ z .frames) × (z .frames ≤ 64) × (length (now online) ≡ z .room * 19) × (z .count ≤ z .room) × (from ≤ to) × (to ≤ z .count) × NoneBefore (committedOn (p .0)) (now online) from × NoneFrom (committedOn (p .0)) (now online) to (z .count) ⌝ }
     ensures { λ r. ⌜ (now (tables .exit) ≡ withCount (length (keep (λ (x : List ℕ). not (gone false 0 (p .0) x)) (rows 19 (z .count) (now (online .entry)) 0))) (withOrder (z .frames) (cond (plan .frees) (without (plan .frame) (part 35 (getD (now (tables .entry)) 2 0) (now (tables .entry)))) (part 35 (getD (now (tables .entry)) 2 0) (now (tables .entry)))) (set (now (tables .entry)) (entryAt (z .frames) (p .0)) (plan .entry)))) × (now (online .exit) ≡ table 19 (z .room) (keep (λ (x : List ℕ). not (gone false 0 (p .0) x)) (rows 19 (z .count) (now (online .entry)) 0))) ⌝ }
 {
     write_entry(tables, z.frames, p, plan.entry, plan.frees, plan.frame);
-    delete_folded(tables, online, from, z.count, z.room, p);
+    delete_folded(tables, online, from, to, z.count, z.room, p);
 }
 
 // Compact by a survey of the page's records, on all the lent areas.
@@ -231,12 +240,12 @@ fn compact_by(
         p,
         online,
         s.from,
-        z.count,
+        s.to,
         pool,
         plan.framed,
         plan.frame,
     );
-    compact_lost(tables, online, z, p, s.from, plan);
+    compact_lost(tables, online, z, p, s.from, s.to, plan);
     word::store(marks, 12 + 4 * p.0, 4, plan.stamp);
     Compacted {
         reads: plan.reads,

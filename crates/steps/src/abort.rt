@@ -179,7 +179,7 @@ pub fn abort(tables: &mut [u8], online: &mut [u8], frames: usize, m: usize, room
         × (now (online .exit) ≡ table 19 room (keep (stays true owner 0) (rows 19 m (now (online .entry)) 0))) ⌝ }
 {
     take_pages(tables, online, frames, m, owner);
-    let left = table::delete(online, 0, m, room, true, owner, PageNo(0));
+    let left = table::delete(online, 0, m, m, room, true, owner, PageNo(0));
     word::store(tables, 0, 2, left as u64);
     let at = 2 + owner as usize;
     tables[at] = 0;

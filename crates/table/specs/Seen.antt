@@ -6,7 +6,7 @@ use mathlib.Core.List.{List, [], _∷_}
 use lib.ListN.{length}
 use Rattle.record.specs.Rows.{rows, keep}
 use Rattle.record.specs.Record.{onPage, committedOn, smallest, greatest}
-use Rattle.table.specs.Before.{NoneBefore}
+use Rattle.table.specs.Before.{NoneBefore, NoneFrom}
 use Rattle.table.specs.declared.page.Survey.{Survey}
 
 -- r is the survey of the first m rows of t
@@ -18,7 +18,9 @@ pub record Surveyed (p m : ℕ) (t : List ℕ) (r : Survey) : Type 0 where
   pub fewer : r .committed ≤ r .all
   pub below : r .all ≤ m
   pub from : NoneBefore (committedOn p) t (r .from)
-  pub within : r .from ≤ m
+  pub to : NoneFrom (committedOn p) t (r .to) m
+  pub ordered : r .from ≤ r .to
+  pub within : r .to ≤ m
 
 -- r is s with the row x, at the place i, besides
 pub record Seen (s : Survey) (p i : ℕ) (x : List ℕ) (r : Survey) : Type 0 where
@@ -27,3 +29,4 @@ pub record Seen (s : Survey) (p i : ℕ) (x : List ℕ) (r : Survey) : Type 0 wh
   pub least : r .least ≡ smallest (s .least) (keep (committedOn p) (x ∷ []))
   pub most : r .most ≡ greatest (s .most) (keep (committedOn p) (x ∷ []))
   pub from : r .from ≡ cond (committedOn p x) (min (s .from) i) (s .from)
+  pub to : r .to ≡ cond (committedOn p x) (i + 1) (s .to)

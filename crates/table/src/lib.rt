@@ -8,14 +8,14 @@ use page::Survey;
 ghost use mathlib.Core.Path.{_≡_};
 ghost use mathlib.Core.Bool.{true, cond};
 ghost use mathlib.Core.List.{_++_, map};
-ghost use Prim.Native.Nat.{_+_, _*_, _^_, _≤_, _<_};
+ghost use Prim.Native.Nat.{_+_, _*_, _-_, _^_, _≤_, _<_};
 ghost use lib.ListN.{length, take, drop, set, replicate};
 ghost use Rattle.word.specs.Word.{put};
 ghost use Rattle.record.specs.Part.{withPart};
 ghost use Rattle.record.specs.Rows.{rowAt, rows, joined, table, keep};
 ghost use Rattle.record.specs.Record.{ownedBy, bodyOf, rowOf, entered, numbered, numberRows, gone};
 ghost use Rattle.table.specs.Stays.{stays};
-ghost use Rattle.table.specs.Before.{NoneBefore};
+ghost use Rattle.table.specs.Before.{NoneBefore, NoneFrom};
 ghost use Rattle.table.specs.Seen.{Surveyed};
 
 // How many of the first m rows are the owner's.
@@ -192,38 +192,55 @@ fn keep_row(t: &mut [u8], k: usize, j: usize, whole: bool, owner: u8, p: PageNo)
     k + 1
 }
 
-// The rows of the first m that stay, moved to the front; how many. What stands after them is left over.
+// The rows before row `to` that stay, moved to the front; how many. What stands after them, up to row `to`, is left over.
 // Those before row `from` all stay: they stand where they are to be.
-fn squeeze(t: &mut [u8], from: usize, m: usize, whole: bool, owner: u8, p: PageNo) -> usize
-    requires { ⌜ (m * 19 ≤ length (now t)) × (from ≤ m) × NoneBefore (gone whole owner (p .0)) (now t) from ⌝ }
-    ensures { λ r. ⌜ (take (r * 19) (now (t .exit)) ≡ joined (keep (stays whole owner (p .0)) (rows 19 m (now (t .entry)) 0))) × (r ≡ length (keep (stays whole owner (p .0)) (rows 19 m (now (t .entry)) 0))) × (r ≤ m) ⌝ }
+fn squeeze(t: &mut [u8], from: usize, to: usize, whole: bool, owner: u8, p: PageNo) -> usize
+    requires { ⌜ (to * 19 ≤ length (now t)) × (from ≤ to) × NoneBefore (gone whole owner (p .0)) (now t) from ⌝ }
+    ensures { λ r. ⌜ (take (r * 19) (now (t .exit)) ≡ joined (keep (stays whole owner (p .0)) (rows 19 to (now (t .entry)) 0))) × (r ≡ length (keep (stays whole owner (p .0)) (rows 19 to (now (t .entry)) 0))) × (r ≤ to) × (drop (to * 19) (now (t .exit)) ≡ drop (to * 19) (now (t .entry))) ⌝ }
 {
     let mut k = from;
     let mut j = from;
-    while j < m {
+    while j < to {
         k = keep_row(t, k, j, whole, owner, p);
         j += 1;
     }
     k
 }
 
+// The rows from `to` up to m, which all stay and so need no test, moved down to row k; the row after the last of them.
+fn close_up(t: &mut [u8], to: usize, m: usize, k: usize) -> usize
+    requires { ⌜ (m * 19 ≤ length (now t)) × (to ≤ m) × (k ≤ to) ⌝ }
+    ensures { λ r. ⌜ (take (r * 19) (now (t .exit)) ≡ take (k * 19) (now (t .entry)) ++ joined (rows 19 (m - to) (now (t .entry)) to)) × (r ≡ k + (m - to)) ⌝ }
+{
+    let mut i = k;
+    let mut j = to;
+    while j < m {
+        bytes::slide_row(t, j * 19, i * 19);
+        i += 1;
+        j += 1;
+    }
+    i
+}
+
 // The owner's rows of the first m deleted, all or those of one page; how many rows are left. The rest of the table is zero.
-// None of them stands before row `from`.
+// None of them stands before row `from`, and none from row `to` on.
 pub fn delete(
     t: &mut [u8],
     from: usize,
+    to: usize,
     m: usize,
     size: usize,
     whole: bool,
     owner: u8,
     p: PageNo,
 ) -> usize
-    requires { ⌜ (length (now t) ≡ size * 19) × (m ≤ size) × (from ≤ m) × NoneBefore (gone whole owner (p .0)) (now t) from ⌝ }
+    requires { ⌜ (length (now t) ≡ size * 19) × (m ≤ size) × (from ≤ to) × (to ≤ m) × NoneBefore (gone whole owner (p .0)) (now t) from × NoneFrom (gone whole owner (p .0)) (now t) to m ⌝ }
     ensures { λ r. ⌜ (now (t .exit) ≡ table 19 size (keep (stays whole owner (p .0)) (rows 19 m (now (t .entry)) 0))) × (r ≡ length (keep (stays whole owner (p .0)) (rows 19 m (now (t .entry)) 0))) ⌝ }
 {
-    let k = squeeze(t, from, m, whole, owner, p);
-    bytes::clear(t, k * 19);
-    k
+    let k = squeeze(t, from, to, whole, owner, p);
+    let left = close_up(t, to, m, k);
+    bytes::clear(t, left * 19);
+    left
 }
 
 // The first d of the n rows of the log dropped. The rest of the log is zero.
@@ -247,6 +264,7 @@ pub fn survey(t: &[u8], m: usize, p: PageNo) -> Survey
         least: 0,
         most: 0,
         from: m,
+        to: m,
     };
     let mut i = 0;
     while i < m {

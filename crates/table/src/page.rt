@@ -8,13 +8,14 @@ ghost use Rattle.table.specs.Seen.{Seen};
 use number::PageNo;
 
 // What the rows of a page come to: how many, how many of them committed, the smallest and the greatest number of those (0: none),
-// and the row from which on they stand (with none: the end).
+// and the rows from which on and up to which those stand (with none: the end).
 pub struct Survey {
     pub all: usize,
     pub committed: usize,
     pub least: u64,
     pub most: u64,
     pub from: usize,
+    pub to: usize,
 }
 
 // The smaller of two numbers, where 0 is none.
@@ -65,6 +66,7 @@ pub fn look(s: Survey, t: &[u8], i: usize, p: PageNo) -> Survey
             least: s.least,
             most: s.most,
             from: s.from,
+            to: s.to,
         };
     }
     let k = record::number_of(t, i);
@@ -74,5 +76,6 @@ pub fn look(s: Survey, t: &[u8], i: usize, p: PageNo) -> Survey
         least: lesser_of(s.least, k.0),
         most: greater_of(s.most, k.0),
         from: earlier_of(s.from, i),
+        to: i + 1,
     }
 }

@@ -62,7 +62,7 @@ returns c =
       reads-done (now (a .fixed)) (now (a .marks)) (now (a .log)) (now (a .stored)) (now (a .tables)) (now (a .online)) (now (a .pool)) (a .p .0) (m .result) (k .result) (m .ensures) q,
       (
         writes-done (lentOf (now (a .fixed)) (now (a .marks)) (now (a .log)) (now (a .stored)) (now (a .tables)) (now (a .online)) (now (a .pool))) (a .p .0),
-        lent-done (now (a .fixed)) (now (a .marks)) (now (a .log)) (now (a .stored)) (now (a .tables)) (now (a .online)) (now (a .pool)) (a .p .0) (m .result) (k .result) (m .ensures) q _ _ _ _
+        lent-done (now (a .fixed)) (now (a .marks)) (now (a .log)) (now (a .stored)) (now (a .tables)) (now (a .online)) (now (a .pool)) (a .p .0) (m .result) (k .result) (m .ensures) q (a .s) (s .pre .2) _ _ _ _
             (c .before .before .before .before .before .before .before .before .before .before .before .before .before .before .write-page .ensures) (c .before .before .before .before .before .before .before .before .before .compact-lost .ensures .0) (c .before .before .before .before .before .before .before .before .before .compact-lost .ensures .1) (c .before .before .store .ensures),
       ),
     )

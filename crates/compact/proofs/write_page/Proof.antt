@@ -2,8 +2,6 @@
 use Prim.Native.Nat.{_*_}
 use denote.Ref.{now}
 use borrow.Author.Needs.{needs}
-use Rattle.record.specs.Record.{committedOn}
-use Rattle.table.proofs.Laws.{keep-rows-from}
 use Rattle.compact.proofs.Laws.{page-copied, page-folded}
 use Rattle.compact.proofs.write_page.Statement.{statement}
 use Rattle.compact.proofs.write_page.Tie as tie
@@ -66,9 +64,8 @@ same-length-2 c = search needs
 
 returns-2 : tie.Need-returns-2
 returns-2 c =
-    let s = c .before .before .before .before .before .before .before .before .before in
-    let a = s .args in
-    page-folded (now (a .stored)) _ _ _ _ (a .p .0 * a .size) (a .size) (a .framed) (c .before .before .before .before .if1 .left) (keep-rows-from (committedOn (a .p .0)) (a .m) (now (a .online)) (s .pre .4) (s .pre .3)) (c .before .before .fold .ensures)
+    let a = c .before .before .before .before .before .before .before .before .before .args in
+    page-folded (now (a .stored)) _ _ _ (a .p .0 * a .size) (a .size) (a .framed) (c .before .before .before .before .if1 .left) (c .before .before .fold .ensures)
 
 pub write-page-spec : {M : Type 1} → statement M
 write-page-spec =

@@ -13,7 +13,7 @@ abbrev μ-loop : tie.MeasureT-loop
 μ-loop t m p s₀ i₀ s i = m - i
 
 loop-holds : tie.Need-loop-holds Inv-loop μ-loop
-loop-holds c = survey-none _ _ _ _ refl refl refl refl refl
+loop-holds c = survey-none _ _ _ _ refl refl refl refl refl refl
 
 look-requires : tie.Need-look-requires Inv-loop μ-loop
 look-requires c κs = search needs

@@ -17,7 +17,7 @@ take-pages-requires : tie.Need-take-pages-requires
 take-pages-requires c κs = search needs
 
 delete-requires : tie.Need-delete-requires
-delete-requires c κs = (search needs, search needs, search needs, start)
+delete-requires c κs = (search needs, search needs, search needs, search needs, start, start)
 
 store-requires : tie.Need-store-requires
 store-requires c κs = search needs

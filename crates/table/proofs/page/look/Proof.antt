@@ -21,7 +21,7 @@ add-t9 : tie.Need-add-t9
 add-t9 c = search needs
 
 returns-2 : tie.Need-returns-2
-returns-2 c = seen-open _ _ _ _ _ (eq-eqb _ _ (sym (c .before .before .before .before .before .before .page-of .ensures .0) ∙ c .before .before .before .if1 .left)) (ne-eqb _ _ (λ e. c .before .if2 .taken (c .before .before .owner-of .ensures ∙ e))) refl refl refl refl refl
+returns-2 c = seen-open _ _ _ _ _ (eq-eqb _ _ (sym (c .before .before .before .before .before .before .page-of .ensures .0) ∙ c .before .before .before .if1 .left)) (ne-eqb _ _ (λ e. c .before .if2 .taken (c .before .before .owner-of .ensures ∙ e))) refl refl refl refl refl refl
 
 number-of-requires : tie.Need-number-of-requires
 number-of-requires c κs = search needs
@@ -41,8 +41,11 @@ greater-of-requires c κs = search needs
 earlier-of-requires : tie.Need-earlier-of-requires
 earlier-of-requires c κs = search needs
 
+add-t15 : tie.Need-add-t15
+add-t15 c = search needs
+
 returns-3 : tie.Need-returns-3
-returns-3 c = seen-committed _ _ _ _ _ (eq-eqb _ _ (sym (c .before .before .before .before .before .before .before .before .before .before .before .page-of .ensures .0) ∙ c .before .before .before .before .before .before .before .before .if1 .left)) (eq-eqb _ _ (sym (c .before .before .before .before .before .before .before .owner-of .ensures) ∙ c .before .before .before .before .before .before .if2 .left)) refl refl (c .before .before .lesser-of .ensures ∙ ap (λ (z : ℕ). lesser (c .before .before .before .before .before .before .before .before .before .before .before .before .before .args .s .least) z) (c .before .before .before .before .before .number-of .ensures .0)) (c .before .greater-of .ensures ∙ ap (λ (z : ℕ). max (c .before .before .before .before .before .before .before .before .before .before .before .before .before .args .s .most) z) (c .before .before .before .before .before .number-of .ensures .0)) (c .earlier-of .ensures)
+returns-3 c = seen-committed _ _ _ _ _ (eq-eqb _ _ (sym (c .before .before .before .before .before .before .before .before .before .before .before .page-of .ensures .0) ∙ c .before .before .before .before .before .before .before .before .if1 .left)) (eq-eqb _ _ (sym (c .before .before .before .before .before .before .before .owner-of .ensures) ∙ c .before .before .before .before .before .before .if2 .left)) refl refl (c .before .before .lesser-of .ensures ∙ ap (λ (z : ℕ). lesser (c .before .before .before .before .before .before .before .before .before .before .before .before .before .args .s .least) z) (c .before .before .before .before .before .number-of .ensures .0)) (c .before .greater-of .ensures ∙ ap (λ (z : ℕ). max (c .before .before .before .before .before .before .before .before .before .before .before .before .before .args .s .most) z) (c .before .before .before .before .before .number-of .ensures .0)) (c .earlier-of .ensures) refl
 
 pub look-spec : {M : Type 1} → statement M
 look-spec =
@@ -59,4 +62,5 @@ look-spec =
     lesser-of-requires
     greater-of-requires
     earlier-of-requires
+    add-t15
     returns-3)
