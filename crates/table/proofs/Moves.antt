@@ -132,11 +132,11 @@ slide-join l s t from to i k p h e f =
     let back : drop (to + i) s ≡ drop (to + i) l = with-drop to i (to + i) l s (part from i l) (omega arith) m refl e in
     let n : to + i + (from - to) ≡ from + i = omega arith in
     let read : drop (from + i) s ≡ drop (from + i) l =
-        ap (λ (x : ℕ). drop x s) (sym n) ∙ sym (drop-drop (from - to) (to + i) s) ∙ ap (λ (x : List ℕ). drop (from - to) x) back
-        ∙ drop-drop (from - to) (to + i) l ∙ ap (λ (x : ℕ). drop x l) n
+    ap (λ (x : ℕ). drop x s) (sym n) ∙ sym (drop-drop (from - to) (to + i) s) ∙ ap (λ (x : List ℕ). drop (from - to) x) back
+    ∙ drop-drop (from - to) (to + i) l ∙ ap (λ (x : ℕ). drop x l) n
     in
     let both : part from (i + k) l ≡ part from i l ++ part (from + i) k l =
-        take-add i k (drop from l) ∙ ap (λ (x : List ℕ). part from i l ++ take k x) (drop-drop i from l)
+    take-add i k (drop from l) ∙ ap (λ (x : List ℕ). part from i l ++ take k x) (drop-drop i from l)
     in
     let rest : drop k (drop (to + i) l) ≡ drop (i + k) (drop to l) = ap (λ (x : List ℕ). drop k x) (sym (drop-drop i to l)) ∙ drop-drop k i (drop to l) in
     f ∙ rw (front, back, read, rest, both) (append-assoc (take to l) (part from i l) (part (from + i) k l ++ drop (i + k) (drop to l)) ∙ ap (λ (x : List ℕ). take to l ++ x) (sym (append-assoc (part from i l) (part (from + i) k l) (drop (i + k) (drop to l)))))

@@ -15,8 +15,8 @@ use Rattle.word.proofs.Laws.{length-put}
 use Rattle.record.specs.Part.{part, withPart}
 use Rattle.record.specs.Rows.{rowAt, rows, joined, table, consIf, keep}
 use Rattle.record.specs.Record.{pageOf, ownerOf, bodyOf, ownedBy, gone, entered, numbered, numberRows}
-use Rattle.record.proofs.Parts.{with-take, with-drop, with-length}
-use Rattle.table.proofs.Laws.{rows-more, rows-end, rows-start, keep-rows-more, keep-rows-end, keep-rows-rest, keep-every, row-length, sub-mul, joined-cons, joined-rows, joined-append, length-rows, drop-rows, count-start, count-turn, count-end}
+use Rattle.record.proofs.Parts.{length-part, with-take, with-drop, with-length}
+use Rattle.table.proofs.Laws.{rows-more, rows-end, rows-start, keep-rows-more, keep-rows-end, keep-rows-rest, row-length, sub-mul, joined-cons, joined-rows, joined-append, length-rows, drop-rows, count-start, count-turn, count-end}
 use Rattle.table.specs.Before.{NoneBefore, NoneFrom, start, pass}
 use Rattle.table.proofs.Moves.{lent-back, lent-length, slide-stays}
 
@@ -246,16 +246,16 @@ pub gone-page : (w : Bool) (x p q a : ℕ) (r : List ℕ) → w ≡ false → q 
 gone-page w x p q a r we qe e ae =
     ap (λ (z : ℕ). eqb z x) ae ∙ ap (λ (z : Bool). z && eqb (ownerOf r) x) (sym (eq-eqb (pageOf r) p (sym qe ∙ e))) ∙ ap (λ (z : Bool). gone z x p r) (sym we)
 
--- `squeeze` and `close_up`: j rows are passed, of which k stay; with those still to stay they are n rows, of the bytes z
-pub record Squeezing (b : List ℕ → Bool) (m : ℕ) (z : List ℕ) (n : ℕ) (o t : List ℕ) (k j : ℕ) : Type 0 where
+-- `squeeze`: j rows are passed, of which k stay
+pub record Squeezing (b : List ℕ → Bool) (m : ℕ) (o t : List ℕ) (k j : ℕ) : Type 0 where
   pub within : j ≤ m
   pub less : k ≤ j
   pub same : length t ≡ length o
   pub after : drop (j * 19) t ≡ drop (j * 19) o
-  pub bytes : take (k * 19) t ++ joined (keep b (rows 19 (m - j) o j)) ≡ z
-  pub count : k + length (keep b (rows 19 (m - j) o j)) ≡ n
+  pub bytes : take (k * 19) t ++ joined (keep b (rows 19 (m - j) o j)) ≡ joined (keep b (rows 19 m o 0))
+  pub count : k + length (keep b (rows 19 (m - j) o j)) ≡ length (keep b (rows 19 m o 0))
 
-squeeze-none : (b : List ℕ → Bool) (m : ℕ) (o : List ℕ) → Squeezing b m (joined (keep b (rows 19 m o 0))) (length (keep b (rows 19 m o 0))) o o 0 0
+squeeze-none : (b : List ℕ → Bool) (m : ℕ) (o : List ℕ) → Squeezing b m o o 0 0
 squeeze-none b m o =
     record {
       within = omega arith;
@@ -266,10 +266,10 @@ squeeze-none b m o =
       count = count-start b 19 m o 0 ∙ zero-add (length (keep b (rows 19 m o 0)));
     }
 
-pub squeeze-more : (b : List ℕ → Bool) (m : ℕ) (z : List ℕ) (n : ℕ) (o t : List ℕ) (k j : ℕ) (s : List ℕ) (i : ℕ) → Squeezing b m z n o t k j → m * 19 ≤ length o → j < m
+pub squeeze-more : (b : List ℕ → Bool) (m : ℕ) (o t : List ℕ) (k j : ℕ) (s : List ℕ) (i : ℕ) → Squeezing b m o t k j → m * 19 ≤ length o → j < m
     → s ≡ cond (b (rowAt 19 t j)) (withPart (k * 19) 19 t (rowAt 19 t j)) t → i ≡ cond (b (rowAt 19 t j)) (k + 1) k
-    → Squeezing b m z n o s i (j + 1)
-squeeze-more b m z n o t k j s i inv fit lt se₀ ie₀ =
+    → Squeezing b m o s i (j + 1)
+squeeze-more b m o t k j s i inv fit lt se₀ ie₀ =
     go (b y) refl
     (se₀ ∙ ap (λ (q : List ℕ). cond (b q) (withPart (k * 19) 19 t q) t) same-row)
     (ie₀ ∙ ap (λ (q : List ℕ). cond (b q) (k + 1) k) same-row)
@@ -286,7 +286,7 @@ squeeze-more b m z n o t k j s i inv fit lt se₀ ie₀ =
     next : (j + 1) * 19 ≡ j * 19 + 19
     next = omega arith
 
-    go : (w : Bool) → b y ≡ w → s ≡ cond w (withPart (k * 19) 19 t y) t → i ≡ cond w (k + 1) k → Squeezing b m z n o s i (j + 1)
+    go : (w : Bool) → b y ≡ w → s ≡ cond w (withPart (k * 19) 19 t y) t → i ≡ cond w (k + 1) k → Squeezing b m o s i (j + 1)
     go true b-is se ie =
         let h : k * 19 + 19 ≤ length t = omega arith in
         let ly : length y ≡ 19 = row-length 19 o j (omega arith) in
@@ -322,37 +322,31 @@ squeeze-more b m z n o t k j s i inv fit lt se₀ ie₀ =
         }
 
 -- rows that all stay are passed, and the table is as it was
-pub squeeze-start : (b : List ℕ → Bool) (m : ℕ) (o : List ℕ) {a : ℕ} → NoneBefore b o a → m * 19 ≤ length o → a ≤ m
-    → Squeezing (λ (x : List ℕ). not (b x)) m (joined (keep (λ (x : List ℕ). not (b x)) (rows 19 m o 0))) (length (keep (λ (x : List ℕ). not (b x)) (rows 19 m o 0))) o o a a
+pub squeeze-start : (b : List ℕ → Bool) (m : ℕ) (o : List ℕ) {a : ℕ} → NoneBefore b o a → m * 19 ≤ length o → a ≤ m → Squeezing (λ (x : List ℕ). not (b x)) m o o a a
 squeeze-start b m o start fit le = squeeze-none (λ (x : List ℕ). not (b x)) m o
 squeeze-start b m o (pass {m = a} h e) fit le =
     let s : o ≡ cond (not (b (rowAt 19 o a))) (withPart (a * 19) 19 o (rowAt 19 o a)) o = rw e (slide-stays o (a * 19) (a * 19) 19 refl) in
     let i : a + 1 ≡ cond (not (b (rowAt 19 o a))) (a + 1) a = rw e in
-    subst (λ (k : ℕ). Squeezing (λ (x : List ℕ). not (b x)) m (joined (keep (λ (x : List ℕ). not (b x)) (rows 19 m o 0))) (length (keep (λ (x : List ℕ). not (b x)) (rows 19 m o 0))) o o k k) (add-one a)
-    (squeeze-more (λ (x : List ℕ). not (b x)) m _ _ o o a a o (a + 1) (squeeze-start b m o h fit (omega arith)) fit (omega arith) s i)
+    subst (λ (k : ℕ). Squeezing (λ (x : List ℕ). not (b x)) m o o k k) (add-one a)
+    (squeeze-more (λ (x : List ℕ). not (b x)) m o o a a o (a + 1) (squeeze-start b m o h fit (omega arith)) fit (omega arith) s i)
 
--- k rows stand at the front, and those from row j on all stay
-pub close-start : (m : ℕ) (o : List ℕ) (k j : ℕ) → j ≤ m → k ≤ j → Squeezing (λ (x : List ℕ). true) m (take (k * 19) o ++ joined (rows 19 (m - j) o j)) (k + (m - j)) o o k j
-close-start m o k j h g =
-    record {
-      within = h;
-      less = g;
-      same = refl;
-      after = refl;
-      bytes = ap (λ (q : List (List ℕ)). take (k * 19) o ++ joined q) (keep-every (rows 19 (m - j) o j));
-      count = ap (λ (q : List (List ℕ)). k + length q) (keep-every (rows 19 (m - j) o j)) ∙ ap (λ (q : ℕ). k + q) (length-rows 19 (m - j) o j);
-    }
-
-pub squeeze-all : (b : List ℕ → Bool) (m : ℕ) (z : List ℕ) (n : ℕ) (o t : List ℕ) (k j : ℕ) → Squeezing b m z n o t k j → m ≤ j
-    → (take (k * 19) t ≡ z) × (k ≡ n) × (k ≤ m) × (drop (m * 19) t ≡ drop (m * 19) o)
+pub squeeze-all : (b : List ℕ → Bool) (m : ℕ) (o t : List ℕ) (k j : ℕ) → Squeezing b m o t k j → m ≤ j
+    → (take (k * 19) t ≡ joined (keep b (rows 19 m o 0))) × (k ≡ length (keep b (rows 19 m o 0))) × (k ≤ m) × (drop (m * 19) t ≡ drop (m * 19) o)
 unfolding joined
-squeeze-all b m z n o t k j inv q =
+squeeze-all b m o t k j inv q =
     let e : j ≡ m = omega (arith, inv .within) in (
       sym (append-nil (take (k * 19) t)) ∙ ap (λ (y : List (List ℕ)). take (k * 19) t ++ joined y) (sym (keep-rows-end b 19 m o j q)) ∙ inv .bytes,
-      count-end b 19 m o j k n q (inv .count),
+      count-end b 19 m o j k _ q (inv .count),
       omega (arith, inv .less),
       rw e at (inv .after),
     )
+
+-- `close_up`: the first k rows, and behind them those that were moved
+pub moved-up : (to m k : ℕ) (l t : List ℕ) → m * 19 ≤ length l → to ≤ m → k ≤ to → t ≡ withPart (k * 19) ((m - to) * 19) l (part (to * 19) ((m - to) * 19) l)
+    → take ((k + (m - to)) * 19) t ≡ take (k * 19) l ++ joined (rows 19 (m - to) l to)
+moved-up to m k l t h p q e =
+    with-take (k * 19) ((m - to) * 19) ((k + (m - to)) * 19) l t (part (to * 19) ((m - to) * 19) l) (omega arith) (length-part (to * 19) ((m - to) * 19) l (omega arith)) (omega arith) e
+    ∙ ap (λ (x : List ℕ). take (k * 19) l ++ x) (sym (joined-rows 19 (m - to) l to))
 
 -- `delete`: the rows before row a that stay, and behind them all those from it on, are the rows that stay
 pub closed-up : (b : List ℕ → Bool) (a m : ℕ) (o t s : List ℕ) (k n : ℕ) → NoneFrom b o a m

@@ -212,14 +212,9 @@ fn close_up(t: &mut [u8], to: usize, m: usize, k: usize) -> usize
     requires { ⌜ (m * 19 ≤ length (now t)) × (to ≤ m) × (k ≤ to) ⌝ }
     ensures { λ r. ⌜ (take (r * 19) (now (t .exit)) ≡ take (k * 19) (now (t .entry)) ++ joined (rows 19 (m - to) (now (t .entry)) to)) × (r ≡ k + (m - to)) ⌝ }
 {
-    let mut i = k;
-    let mut j = to;
-    while j < m {
-        bytes::slide_row(t, j * 19, i * 19);
-        i += 1;
-        j += 1;
-    }
-    i
+    let n = m - to;
+    bytes::slide(t, to * 19, k * 19, n * 19);
+    k + n
 }
 
 // The owner's rows of the first m deleted, all or those of one page; how many rows are left. The rest of the table is zero.

@@ -1,64 +1,47 @@
--- The rows moved stand behind the first k, those not passed are as they were: all of them stay.
-use Prim.Native.Nat.{ℕ, _+_, _*_, _-_}
+-- The rows moved are the part that was lent from row `to` on, behind the first k.
+use denote.Ref.{now}
 use mathlib.Core.Path.{refl}
-use mathlib.Core.Bool.{true}
-use mathlib.Core.List.{List, _++_}
-use lib.ListN.{take}
-use Rattle.record.specs.Rows.{rows, joined}
-use Rattle.table.proofs.Turns.{Squeezing, close-start, squeeze-more, squeeze-all}
+use Rattle.table.proofs.Turns.{moved-up}
 use borrow.Author.Needs.{needs}
 use Rattle.table.proofs.close_up.Statement.{statement}
 use Rattle.table.proofs.close_up.Tie as tie
 
-abbrev Inv-loop : tie.InvT-loop
-Inv-loop t₀ to m k i₀ j₀ t i j = Squeezing (λ (x : List ℕ). true) m (take (k * 19) t₀ ++ joined (rows 19 (m - to) t₀ to)) (k + (m - to)) t₀ t i j
+sub-n : tie.Need-sub-n
+sub-n c = search needs
 
-abbrev μ-loop : tie.MeasureT-loop
-μ-loop t₀ to m k i₀ j₀ t i j = m - j
+mul-slide : tie.Need-mul-slide
+mul-slide c = search needs
 
-loop-holds : tie.Need-loop-holds Inv-loop μ-loop
-loop-holds c = close-start _ _ _ _ (c .before .pre .1) (c .before .pre .2)
+mul-slide-2 : tie.Need-mul-slide-2
+mul-slide-2 c = search needs
 
-mul-slide-row : tie.Need-mul-slide-row Inv-loop μ-loop
-mul-slide-row c = search needs
+mul-slide-3 : tie.Need-mul-slide-3
+mul-slide-3 c = search needs
 
-mul-slide-row-2 : tie.Need-mul-slide-row-2 Inv-loop μ-loop
-mul-slide-row-2 c = search needs
+slide-requires : tie.Need-slide-requires
+slide-requires c κs = search needs
 
-slide-row-requires : tie.Need-slide-row-requires Inv-loop μ-loop
-slide-row-requires c κs = search needs
+add-result : tie.Need-add-result
+add-result c = search needs
 
-add-i : tie.Need-add-i Inv-loop μ-loop
-add-i c = search needs
-
-add-j : tie.Need-add-j Inv-loop μ-loop
-add-j c = search needs
-
-loop-less : tie.Need-loop-less Inv-loop μ-loop
-loop-less c = search needs
-
-loop-again : tie.Need-loop-again Inv-loop μ-loop
-loop-again c = squeeze-more _ _ _ _ _ _ _ _ _ _ (c .before .before .before .before .before .loop .inv) (c .before .before .before .before .before .before .before .pre .0) (c .before .before .before .before .loop-test .taken) (c .before .before .slide-row .ensures) refl
-
-same-length : tie.Need-same-length Inv-loop μ-loop
+same-length : tie.Need-same-length
 same-length c = search needs
 
-returns : tie.Need-returns Inv-loop μ-loop
-returns c = let e = squeeze-all _ _ _ _ _ _ _ _ (c .before .loop .inv) (c .loop-test .left) in (e .0, e .1)
+returns : tie.Need-returns
+returns c =
+    let s = c .before .before .before .before .before in
+    let a = s .args in
+    (moved-up (a .to) (a .m) (a .k) (now (a .t)) _ (s .pre .0) (s .pre .1) (s .pre .2) (c .before .before .slide .ensures), refl)
 
 pub close-up-spec : {M : Type 1} → statement M
 close-up-spec =
     tie.close
     (tie.spec
-    Inv-loop
-    μ-loop
-    loop-holds
-    mul-slide-row
-    mul-slide-row-2
-    slide-row-requires
-    add-i
-    add-j
-    loop-less
-    loop-again
+    sub-n
+    mul-slide
+    mul-slide-2
+    mul-slide-3
+    slide-requires
+    add-result
     same-length
     returns)

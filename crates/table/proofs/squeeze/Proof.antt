@@ -1,7 +1,5 @@
 -- The rows that stay stand at the front, those not passed are as they were: with those still to stay they are all that do.
 use Prim.Native.Nat.{_-_}
-use lib.ListN.{length}
-use Rattle.record.specs.Rows.{rows, joined, keep}
 use Rattle.table.specs.Stays.{stays}
 use Rattle.table.proofs.Turns.{Squeezing, squeeze-start, squeeze-more, squeeze-all}
 use borrow.Author.Needs.{needs}
@@ -9,7 +7,7 @@ use Rattle.table.proofs.squeeze.Statement.{statement}
 use Rattle.table.proofs.squeeze.Tie as tie
 
 abbrev Inv-loop : tie.InvT-loop
-Inv-loop t₀ from to whole owner p k₀ j₀ t k j = Squeezing (stays whole owner (p .0)) to (joined (keep (stays whole owner (p .0)) (rows 19 to t₀ 0))) (length (keep (stays whole owner (p .0)) (rows 19 to t₀ 0))) t₀ t k j
+Inv-loop t₀ from to whole owner p k₀ j₀ t k j = Squeezing (stays whole owner (p .0)) to t₀ t k j
 
 abbrev μ-loop : tie.MeasureT-loop
 μ-loop t₀ from to whole owner p k₀ j₀ t k j = to - j
@@ -27,13 +25,13 @@ loop-less : tie.Need-loop-less Inv-loop μ-loop
 loop-less c = search needs
 
 loop-again : tie.Need-loop-again Inv-loop μ-loop
-loop-again c = squeeze-more _ _ _ _ _ _ _ _ _ _ (c .before .before .before .before .before .loop .inv) (c .before .before .before .before .before .before .before .pre .0) (c .before .before .before .before .loop-test .taken) (c .before .before .keep-row .ensures .0) (c .before .before .keep-row .ensures .1)
+loop-again c = squeeze-more _ _ _ _ _ _ _ _ (c .before .before .before .before .before .loop .inv) (c .before .before .before .before .before .before .before .pre .0) (c .before .before .before .before .loop-test .taken) (c .before .before .keep-row .ensures .0) (c .before .before .keep-row .ensures .1)
 
 same-length : tie.Need-same-length Inv-loop μ-loop
 same-length c = search needs
 
 returns : tie.Need-returns Inv-loop μ-loop
-returns c = squeeze-all _ _ _ _ _ _ _ _ (c .before .loop .inv) (c .loop-test .left)
+returns c = squeeze-all _ _ _ _ _ _ (c .before .loop .inv) (c .loop-test .left)
 
 pub squeeze-spec : {M : Type 1} → statement M
 squeeze-spec =
