@@ -8,7 +8,7 @@ use mathlib.Core.List.{List, [], _∷_}
 use lib.ListN.{length, set}
 use lib.Arith.{mod-mul, digits-div, digits-mod}
 use lib.Dec.{eqb, leb}
-use borrow.Author.Tests.{leb-true, leb-false, le-leb, lt-leb}
+use borrow.Author.Tests.{leb-true, leb-false, le-leb, lt-leb, eq-eqb, ne-eqb}
 use Rattle.word.specs.Word.{num, put}
 use Rattle.word.proofs.Laws.{length-put}
 use Rattle.word.proofs.Tests.{and-both}
@@ -111,12 +111,19 @@ pub apply-fields : (r g g′ : List ℕ) (offset w kind v : ℕ) → offset ≡ 
 unfolding apply
 apply-fields r g g′ offset w kind v a b c d e = rw (← a, ← b, ← c, ← d) e
 
--- `is_chosen`: by page and owner, and by page alone
-pub chosen-only : (only : Bool) (r : List ℕ) (p q owner : ℕ) → only ≡ true → q ≡ pageOf r → owner ≡ ownerOf r → (eqb q p && eqb owner 0) ≡ chosen only p r
-chosen-only only r p q owner h a b = rw (h, a, b)
+-- `is_chosen`: of another page; of the page, by its owner and whatever its owner
+chosen-not : (only : Bool) (r : List ℕ) (p : ℕ) → eqb (pageOf r) p ≡ false → false ≡ chosen only p r
+chosen-not true r p e = rw e
+chosen-not false r p e = rw e
 
-pub chosen-all : (only : Bool) (r : List ℕ) (p q : ℕ) → only ≡ false → q ≡ pageOf r → eqb q p ≡ chosen only p r
-chosen-all only r p q h a = rw (h, a)
+pub chosen-other : (only : Bool) (r : List ℕ) (p q : ℕ) → q ≡ pageOf r → (q ≡ p → ⊥) → false ≡ chosen only p r
+chosen-other only r p q a h = chosen-not only r p (ne-eqb (pageOf r) p (λ e. h (a ∙ e)))
+
+pub chosen-only : (only : Bool) (r : List ℕ) (p q owner : ℕ) → only ≡ true → q ≡ pageOf r → q ≡ p → owner ≡ ownerOf r → eqb owner 0 ≡ chosen only p r
+chosen-only only r p q owner h a e b = rw (h, b, eq-eqb (pageOf r) p (sym a ∙ e))
+
+pub chosen-all : (only : Bool) (r : List ℕ) (p q : ℕ) → only ≡ false → q ≡ pageOf r → q ≡ p → true ≡ chosen only p r
+chosen-all only r p q h a e = rw (h, eq-eqb (pageOf r) p (sym a ∙ e))
 
 -- `fold`: a turn, the end, and from the first row on
 pub fold-turn : (b : List ℕ → Bool) (t : List ℕ) (m i : ℕ) (g g′ h : List ℕ) → i < m → g′ ≡ cond (b (rowAt 19 t i)) (apply (rowAt 19 t i) g) g → applied (keep b (rows 19 (m - i) t i)) g ≡ h → applied (keep b (rows 19 (m - (i + 1)) t (i + 1))) g′ ≡ h

@@ -62,11 +62,13 @@ fn is_chosen(t: &[u8], i: usize, p: PageNo, only: bool) -> bool
     ensures { λ r. ⌜ r ≡ chosen only (p .0) (rowAt 19 (now (t .entry)) i) ⌝ }
 {
     let q = record::page_of(t, 19, i);
-    let owner = record::owner_of(t, i);
-    if only {
-        return (q.0 == p.0) & (owner == 0);
+    if q.0 != p.0 {
+        return false;
     }
-    q.0 == p.0
+    if only {
+        return record::owner_of(t, i) == 0;
+    }
+    true
 }
 
 // The page g with online row i applied if it is chosen.
