@@ -16,7 +16,7 @@ use Rattle.rules.specs.declared.Refusal.{Refusal}
 use Rattle.rules.specs.declared.Refusal.the-variants.{NotSound, Argument, ShortBuffer, NotLive, Live, Held, OnlineFull, LogFull, NumbersEnd}
 use Rattle.rules.specs.declared.Verdict.{Verdict}
 use Rattle.rules.specs.declared.Verdict.the-variants.{Go, Refuse}
-use Rattle.rules.specs.Lent.{Lent, sizeOf, pagesOf, roomOf, spanOf, lastOf, loggedOf, countOf, onlineOf}
+use Rattle.rules.specs.Lent.{Lent, sizeOf, pagesOf, onlineSizeOf, logSizeOf, lastOf, loggedOf, countOf, onlineOf}
 use Rattle.rules.specs.Sound.{between}
 use Rattle.rules.specs.Steps.{owned}
 use Rattle.rules.specs.Calls.{refuseIf, checked, isNumber, isLive, held, mayBegin, mayRead, mayUpdate, mayCommit, mayAbort, judgeBegin, judgeRead, judgeUpdate, judgeCommit, judgeAbort}
@@ -96,10 +96,10 @@ module _ (g : Ground) (done : List (List ℕ)) (h : Past) (s : Lent) (c : Right 
   pub update-said : (x p offset w kind v : ℕ) → Unless OnlineFull (judgeUpdate s x p offset w kind v) (sayUpdate h x p offset w kind v)
   unfolding judgeUpdate mayUpdate sayUpdate
   update-said x p offset w kind v =
-      either-same OnlineFull (judgeUpdate s x p offset w kind v) (mayUpdate (h .size) (h .pages) (roomOf s - countOf s) (s .lost .tables) (onlineOf s) x p offset w kind v) (sayUpdate h x p offset w kind v)
-      (judged (mayUpdate (sizeOf s) (pagesOf s) (roomOf s - countOf s) (s .lost .tables) (onlineOf s) x p offset w kind v)
-      ∙ ap (λ (n : ℕ). mayUpdate n (pagesOf s) (roomOf s - countOf s) (s .lost .tables) (onlineOf s) x p offset w kind v) (size-read g done h s c)
-      ∙ ap (λ (n : ℕ). mayUpdate (h .size) n (roomOf s - countOf s) (s .lost .tables) (onlineOf s) x p offset w kind v) (pages-read g done h s c))
+      either-same OnlineFull (judgeUpdate s x p offset w kind v) (mayUpdate (h .size) (h .pages) (onlineSizeOf s - countOf s) (s .lost .tables) (onlineOf s) x p offset w kind v) (sayUpdate h x p offset w kind v)
+      (judged (mayUpdate (sizeOf s) (pagesOf s) (onlineSizeOf s - countOf s) (s .lost .tables) (onlineOf s) x p offset w kind v)
+      ∙ ap (λ (n : ℕ). mayUpdate n (pagesOf s) (onlineSizeOf s - countOf s) (s .lost .tables) (onlineOf s) x p offset w kind v) (size-read g done h s c)
+      ∙ ap (λ (n : ℕ). mayUpdate (h .size) n (onlineSizeOf s - countOf s) (s .lost .tables) (onlineOf s) x p offset w kind v) (pages-read g done h s c))
       (past-either (not (ltb p (h .pages))) (Argument Page) OnlineFull (λ _.
       past-either (not (isNumber x)) (Argument Number) OnlineFull (λ e.
       past-either (not (isLength w)) (Argument Length) OnlineFull (λ _.
@@ -108,17 +108,17 @@ module _ (g : Ground) (done : List (List ℕ)) (h : Past) (s : Lent) (c : Right 
       past-either (not (leb kind 1)) (Argument Kind) OnlineFull (λ _.
       either-by (not (isLive (s .lost .tables) x)) (not (h .live x)) NotLive OnlineFull (ap not (live-of x e))
       (either-by (held (onlineOf s) x p offset w) (held (h .made) x p offset w) Held OnlineFull (held-read g done h s c x p offset w)
-      (either-full (ltb (roomOf s - countOf s) 1) OnlineFull Go)))))))))
+      (either-full (ltb (onlineSizeOf s - countOf s) 1) OnlineFull Go)))))))))
 
   pub commit-said : (x : ℕ) → Unless LogFull (judgeCommit s x) (sayCommit h x)
   unfolding judgeCommit mayCommit sayCommit
   commit-said x =
-      either-same LogFull (judgeCommit s x) (mayCommit (spanOf s) (loggedOf s) (h .last) (s .lost .tables) (length (owned s x)) x) (sayCommit h x)
-      (judged (mayCommit (spanOf s) (loggedOf s) (lastOf s) (s .lost .tables) (length (owned s x)) x)
-      ∙ ap (λ (n : ℕ). mayCommit (spanOf s) (loggedOf s) n (s .lost .tables) (length (owned s x)) x) (last-read g done h s c))
+      either-same LogFull (judgeCommit s x) (mayCommit (logSizeOf s) (loggedOf s) (h .last) (s .lost .tables) (length (owned s x)) x) (sayCommit h x)
+      (judged (mayCommit (logSizeOf s) (loggedOf s) (lastOf s) (s .lost .tables) (length (owned s x)) x)
+      ∙ ap (λ (n : ℕ). mayCommit (logSizeOf s) (loggedOf s) n (s .lost .tables) (length (owned s x)) x) (last-read g done h s c))
       (past-either (not (isNumber x)) (Argument Number) LogFull (λ e.
       either-by (not (isLive (s .lost .tables) x)) (not (h .live x)) NotLive LogFull (ap not (live-of x e))
       (either-count (length (owned s x)) (length (keep (ownedBy x) (h .made))) (ap (λ (l : List (List ℕ)). length l) (owned-read g done h s c x (low x e))))))
     where
-      either-count : (k n : ℕ) → k ≡ n → Unless LogFull (refuseIf (ltb (spanOf s) (loggedOf s + k)) LogFull (refuseIf (ltb 4294967295 (h .last + k)) NumbersEnd Go)) (refuseIf (ltb 4294967295 (h .last + n)) NumbersEnd Go)
-      either-count k n e = rw e (either-full (ltb (spanOf s) (loggedOf s + n)) LogFull (refuseIf (ltb 4294967295 (h .last + n)) NumbersEnd Go))
+      either-count : (k n : ℕ) → k ≡ n → Unless LogFull (refuseIf (ltb (logSizeOf s) (loggedOf s + k)) LogFull (refuseIf (ltb 4294967295 (h .last + k)) NumbersEnd Go)) (refuseIf (ltb 4294967295 (h .last + n)) NumbersEnd Go)
+      either-count k n e = rw e (either-full (ltb (logSizeOf s) (loggedOf s + n)) LogFull (refuseIf (ltb 4294967295 (h .last + n)) NumbersEnd Go))

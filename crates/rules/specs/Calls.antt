@@ -6,6 +6,7 @@ use lib.ListN.{length, getD}
 use lib.Dec.{eqb, leb, ltb}
 use Rattle.record.specs.Rows.{any}
 use Rattle.record.specs.Record.{pageOf, ownerOf, committed, offsetOf, lengthOf, isLength, rowOf}
+use Rattle.rules.specs.declared.Params.{Params}
 use Rattle.rules.specs.declared.Bad.{Bad}
 use Rattle.rules.specs.declared.Bad.the-variants.{Page, Number, Length, Place, Value, Kind, Parameter, Lent as LentLength}
 use Rattle.rules.specs.declared.Refusal.{Refusal}
@@ -14,7 +15,7 @@ use Rattle.rules.specs.declared.Verdict.{Verdict}
 use Rattle.rules.specs.declared.Verdict.the-variants.{Go, Refuse}
 use Rattle.rules.specs.declared.Answer.{Answer}
 use Rattle.rules.specs.declared.Answer.the-variants.{Done, NotDue, Refused}
-use Rattle.rules.specs.Lent.{Lent, sizeOf, pagesOf, roomOf, spanOf, lastOf, loggedOf, countOf, liveAt, entryOf, onlineOf, inFrame}
+use Rattle.rules.specs.Lent.{Lent, sizeOf, pagesOf, onlineSizeOf, logSizeOf, lastOf, loggedOf, countOf, liveAt, entryOf, onlineOf, inFrame}
 use Rattle.rules.specs.Sound.{sound, soundDurable, between, inRange, exactLengths}
 use Rattle.rules.specs.Steps.{Left, begun, readStep, readBytes, updated, owned, committing, aborted, evicted, due, compacted, closed, checkpointed, enteringAll, restarted, formatted}
 
@@ -99,7 +100,7 @@ mayUpdate size pages free tables online x p offset w kind v =
     Go))))))))
 
 unfoldable pub judgeUpdate : Lent → ℕ → ℕ → ℕ → ℕ → ℕ → ℕ → Verdict
-judgeUpdate s x p offset w kind v = checked s (mayUpdate (sizeOf s) (pagesOf s) (roomOf s - countOf s) (s .lost .tables) (onlineOf s) x p offset w kind v)
+judgeUpdate s x p offset w kind v = checked s (mayUpdate (sizeOf s) (pagesOf s) (onlineSizeOf s - countOf s) (s .lost .tables) (onlineOf s) x p offset w kind v)
 
 unfoldable pub updateCall : Lent → ℕ → ℕ → ℕ → ℕ → ℕ → ℕ → Outcome
 updateCall s x p offset w kind v = settled (judgeUpdate s x p offset w kind v) s [] (doneWith (updated s (rowOf p offset w kind v x)) [])
@@ -114,7 +115,7 @@ mayCommit span n last tables k x =
     Go)))
 
 unfoldable pub judgeCommit : Lent → ℕ → Verdict
-judgeCommit s x = checked s (mayCommit (spanOf s) (loggedOf s) (lastOf s) (s .lost .tables) (length (owned s x)) x)
+judgeCommit s x = checked s (mayCommit (logSizeOf s) (loggedOf s) (lastOf s) (s .lost .tables) (length (owned s x)) x)
 
 unfoldable pub commitCall : Lent → ℕ → Outcome
 commitCall s x = settled (judgeCommit s x) s [] (doneWith (committing s x) [])
@@ -176,17 +177,17 @@ checkpointCall s minDel maxAge = settled (judgeCheckpoint s minDel maxAge) s [] 
 
 -- restart: "more records enter than it holds"
 unfoldable pub judgeRestart : Lent → Verdict
-judgeRestart s = refuseIf (not (soundDurable s)) NotSound (refuseIf (ltb (roomOf s) (length (enteringAll s))) OnlineFull Go)
+judgeRestart s = refuseIf (not (soundDurable s)) NotSound (refuseIf (ltb (onlineSizeOf s) (length (enteringAll s))) OnlineFull Go)
 
 unfoldable pub restartCall : Lent → Outcome
 restartCall s = settled (judgeRestart s) s [] (doneWith (restarted s) [])
 
--- format: "an argument out of its range, … or (format) a lent length wrong"
-unfoldable pub judgeFormat : Lent → ℕ → ℕ → ℕ → ℕ → ℕ → Verdict
-judgeFormat s size pages frames room span =
-    refuseIf (not (inRange size pages frames room span)) (Argument Parameter)
-    (refuseIf (not (eqb (length (s .durable .fixed)) 20 && exactLengths s size pages frames room span)) (Argument LentLength)
+-- format: "an argument out of its range, … or (format) a lent length wrong"; "last log number L | 0 to 4,294,967,295"
+unfoldable pub judgeFormat : Lent → Params → ℕ → Verdict
+judgeFormat s g last =
+    refuseIf (not (inRange g && leb last 4294967295)) (Argument Parameter)
+    (refuseIf (not (eqb (length (s .durable .fixed)) 20 && exactLengths s g)) (Argument LentLength)
     Go)
 
-unfoldable pub formatCall : Lent → ℕ → ℕ → ℕ → ℕ → ℕ → ℕ → Outcome
-formatCall s size pages frames room span last = settled (judgeFormat s size pages frames room span) s [] (doneWith (formatted s size pages frames room span last) [])
+unfoldable pub formatCall : Lent → Params → ℕ → Outcome
+formatCall s g last = settled (judgeFormat s g last) s [] (doneWith (formatted s g last) [])

@@ -15,7 +15,8 @@ use Rattle.rules.specs.declared.Refusal.the-variants.{NotSound, Argument, Short
 use Rattle.rules.specs.declared.Bad.the-variants.{Page, Number, Length, Place, Value, Kind, Parameter, Lent as LentLength}
 use Rattle.rules.specs.declared.Verdict.{Verdict}
 use Rattle.rules.specs.declared.Verdict.the-variants.{Go, Refuse}
-use Rattle.rules.specs.Lent.{Lent, sizeOf, pagesOf, roomOf, spanOf, lastOf, loggedOf, countOf, entryOf, onlineOf, inFrame}
+use Rattle.rules.specs.declared.Params.{Params}
+use Rattle.rules.specs.Lent.{Lent, sizeOf, pagesOf, onlineSizeOf, logSizeOf, lastOf, loggedOf, countOf, entryOf, onlineOf, inFrame}
 use Rattle.rules.specs.Sound.{sound, soundDurable, soundLost, zeros, between, inRange, exactLengths, s1-parameters, s2-lengths, s3-logged, s16-logged, s18-first, s15-stamps, s17-s19-dirty, s7-log-records, s14-log-zero, s3-counts, s20-live, s4-entries, s5-frame-once, s6-order, s14-order-zero, s7-online-records, s8-owners, s14-online-zero, s10-in-log, s11-above-stamp, s9-number-once, s12-dirty, s13-apart}
 use Rattle.rules.specs.Steps.{owned, enteringAll}
 use Rattle.rules.specs.Calls.{refuseIf, checked, isNumber, isLive, held, mayBegin, judgeBegin, mayRead, judgeRead, mayUpdate, judgeUpdate, mayCommit, judgeCommit, mayAbort, judgeAbort, mayEvict, judgeEvict, mayCompact, judgeCompact, judgeClose, mayCheckpoint, judgeCheckpoint, judgeRestart, judgeFormat}
@@ -57,20 +58,20 @@ module _ (s : Lent) (x : ℕ) where
   numbers = refuseIf (ltb 4294967295 (lastOf s + k)) NumbersEnd Go
 
   abbrev room : Verdict
-  room = refuseIf (ltb (spanOf s) (loggedOf s + k)) LogFull numbers
+  room = refuseIf (ltb (logSizeOf s) (loggedOf s + k)) LogFull numbers
 
   abbrev live : Verdict
   live = refuseIf (not (isLive (s .lost .tables) x)) NotLive room
 
-  pub commit-went : judgeCommit s x ≡ Go → (sound s ≡ true) × (isNumber x ≡ true) × (loggedOf s + length (owned s x) ≤ spanOf s) × (lastOf s + length (owned s x) ≤ 4294967295)
+  pub commit-went : judgeCommit s x ≡ Go → (sound s ≡ true) × (isNumber x ≡ true) × (loggedOf s + length (owned s x) ≤ logSizeOf s) × (lastOf s + length (owned s x) ≤ 4294967295)
   unfolding judgeCommit mayCommit
   commit-went e =
       let a = checked-went s (refuseIf (not (isNumber x)) (Argument Number) live) e in
       let b = went (not (isNumber x)) (Argument Number) live (a .1) in
       let d = went (not (isLive (s .lost .tables) x)) NotLive room (b .1) in
-      let f = went (ltb (spanOf s) (loggedOf s + k)) LogFull numbers (d .1) in
+      let f = went (ltb (logSizeOf s) (loggedOf s + k)) LogFull numbers (d .1) in
       let g = went (ltb 4294967295 (lastOf s + k)) NumbersEnd Go (f .1) in
-      (a .0, not-false (isNumber x) (b .0), ltb-false (spanOf s) (loggedOf s + k) (f .0), ltb-false 4294967295 (lastOf s + k) (g .0))
+      (a .0, not-false (isNumber x) (b .0), ltb-false (logSizeOf s) (loggedOf s + k) (f .0), ltb-false 4294967295 (lastOf s + k) (g .0))
 
 module _ (s : Lent) (n x p offset w : ℕ) where
   abbrev r8 : Verdict
@@ -116,7 +117,7 @@ module _ (s : Lent) (n x p offset w : ℕ) where
 
 module _ (s : Lent) (x p offset w kind v : ℕ) where
   abbrev u10 : Verdict
-  u10 = refuseIf (ltb (roomOf s - countOf s) 1) OnlineFull Go
+  u10 = refuseIf (ltb (onlineSizeOf s - countOf s) 1) OnlineFull Go
 
   abbrev u9 : Verdict
   u9 = refuseIf (held (onlineOf s) x p offset w) Held u10
@@ -142,7 +143,7 @@ module _ (s : Lent) (x p offset w kind v : ℕ) where
   -- every test of the chain
   update-tests : judgeUpdate s x p offset w kind v ≡ Go
       → (sound s ≡ true) × (ltb p (pagesOf s) ≡ true) × (isNumber x ≡ true) × (isLength w ≡ true) × (leb (offset + w) (sizeOf s) ≡ true)
-      × (ltb v (256 ^ w) ≡ true) × (leb kind 1 ≡ true) × (isLive (s .lost .tables) x ≡ true) × (held (onlineOf s) x p offset w ≡ false) × (ltb (roomOf s - countOf s) 1 ≡ false)
+      × (ltb v (256 ^ w) ≡ true) × (leb kind 1 ≡ true) × (isLive (s .lost .tables) x ≡ true) × (held (onlineOf s) x p offset w ≡ false) × (ltb (onlineSizeOf s - countOf s) 1 ≡ false)
   unfolding judgeUpdate mayUpdate
   update-tests e =
       let a = checked-went s (refuseIf (not (ltb p (pagesOf s))) (Argument Page) u3) e in
@@ -154,7 +155,7 @@ module _ (s : Lent) (x p offset w kind v : ℕ) where
       let i = went (not (leb kind 1)) (Argument Kind) u8 (h .1) in
       let j = went (not (isLive (s .lost .tables) x)) NotLive u9 (i .1) in
       let l = went (held (onlineOf s) x p offset w) Held u10 (j .1) in
-      let m = went (ltb (roomOf s - countOf s) 1) OnlineFull Go (l .1) in (
+      let m = went (ltb (onlineSizeOf s - countOf s) 1) OnlineFull Go (l .1) in (
         a .0,
         not-false (ltb p (pagesOf s)) (b .0),
         not-false (isNumber x) (d .0),
@@ -168,10 +169,10 @@ module _ (s : Lent) (x p offset w kind v : ℕ) where
       )
 
   pub update-went : judgeUpdate s x p offset w kind v ≡ Go
-      → (sound s ≡ true) × (p < pagesOf s) × (offset + w ≤ sizeOf s) × (w ≤ 8) × (countOf s < roomOf s) × (isNumber x ≡ true) × (kind ≤ 1)
+      → (sound s ≡ true) × (p < pagesOf s) × (offset + w ≤ sizeOf s) × (w ≤ 8) × (countOf s < onlineSizeOf s) × (isNumber x ≡ true) × (kind ≤ 1)
   update-went e =
       let a = update-tests e in
-      let free : 1 ≤ roomOf s - countOf s = ltb-false (roomOf s - countOf s) 1 (a .9) in
+      let free : 1 ≤ onlineSizeOf s - countOf s = ltb-false (onlineSizeOf s - countOf s) 1 (a .9) in
       (a .0, ltb-true p (pagesOf s) (a .1), leb-true (offset + w) (sizeOf s) (a .4), length-most w (a .3), omega arith, a .2, leb-true kind 1 (a .6))
 
   -- whose update it is, and what it writes
@@ -193,22 +194,24 @@ pub close-went : (s : Lent) → judgeClose s ≡ Go → sound s ≡ true
 unfolding judgeClose
 close-went s e = checked-went s Go e .0
 
-pub restart-went : (s : Lent) → judgeRestart s ≡ Go → (soundDurable s ≡ true) × (length (enteringAll s) ≤ roomOf s)
+pub restart-went : (s : Lent) → judgeRestart s ≡ Go → (soundDurable s ≡ true) × (length (enteringAll s) ≤ onlineSizeOf s)
 unfolding judgeRestart
 restart-went s e =
-    let a = went (not (soundDurable s)) NotSound (refuseIf (ltb (roomOf s) (length (enteringAll s))) OnlineFull Go) e in
-    let b = went (ltb (roomOf s) (length (enteringAll s))) OnlineFull Go (a .1) in
-    (not-false (soundDurable s) (a .0), ltb-false (roomOf s) (length (enteringAll s)) (b .0))
+    let a = went (not (soundDurable s)) NotSound (refuseIf (ltb (onlineSizeOf s) (length (enteringAll s))) OnlineFull Go) e in
+    let b = went (ltb (onlineSizeOf s) (length (enteringAll s))) OnlineFull Go (a .1) in
+    (not-false (soundDurable s) (a .0), ltb-false (onlineSizeOf s) (length (enteringAll s)) (b .0))
 
-pub format-went : (s : Lent) (size pages frames room span : ℕ) → judgeFormat s size pages frames room span ≡ Go
-    → (inRange size pages frames room span ≡ true) × (length (s .durable .fixed) ≡ 20) × (exactLengths s size pages frames room span ≡ true)
+pub format-went : (s : Lent) (g : Params) (last : ℕ) → judgeFormat s g last ≡ Go
+    → (inRange g ≡ true) × (length (s .durable .fixed) ≡ 20) × (exactLengths s g ≡ true) × (last ≤ 4294967295)
 unfolding judgeFormat
-format-went s size pages frames room span e =
-    let fits : Bool = eqb (length (s .durable .fixed)) 20 && exactLengths s size pages frames room span in
-    let a = went (not (inRange size pages frames room span)) (Argument Parameter) (refuseIf (not fits) (Argument LentLength) Go) e in
+format-went s g last e =
+    let ranged : Bool = inRange g && leb last 4294967295 in
+    let fits : Bool = eqb (length (s .durable .fixed)) 20 && exactLengths s g in
+    let a = went (not ranged) (Argument Parameter) (refuseIf (not fits) (Argument LentLength) Go) e in
     let b = went (not fits) (Argument LentLength) Go (a .1) in
-    let d = and-both (eqb (length (s .durable .fixed)) 20) (exactLengths s size pages frames room span) (not-false fits (b .0)) in
-    (not-false (inRange size pages frames room span) (a .0), eqb-true (length (s .durable .fixed)) 20 (d .0), d .1)
+    let c = and-both (inRange g) (leb last 4294967295) (not-false ranged (a .0)) in
+    let d = and-both (eqb (length (s .durable .fixed)) 20) (exactLengths s g) (not-false fits (b .0)) in
+    (c .0, eqb-true (length (s .durable .fixed)) 20 (d .0), d .1, leb-true last 4294967295 (c .1))
 
 -- rows past the counts are zero
 pub log-zero : (s : Lent) → sound s ≡ true → zeros (drop (loggedOf s * 14) (s .durable .log)) ≡ true
