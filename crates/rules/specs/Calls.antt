@@ -15,7 +15,7 @@ use Rattle.rules.specs.declared.Verdict.{Verdict}
 use Rattle.rules.specs.declared.Verdict.the-variants.{Go, Refuse}
 use Rattle.rules.specs.declared.Answer.{Answer}
 use Rattle.rules.specs.declared.Answer.the-variants.{Done, NotDue, Refused}
-use Rattle.rules.specs.Lent.{Lent, sizeOf, pagesOf, onlineSizeOf, logSizeOf, lastOf, loggedOf, countOf, liveAt, entryOf, onlineOf, inFrame}
+use Rattle.rules.specs.Lent.{Lent, fixedLength, sizeOf, pagesOf, onlineSizeOf, logSizeOf, lastOf, loggedOf, countOf, liveAt, entryOf, onlineOf, inFrame}
 use Rattle.rules.specs.Sound.{sound, soundDurable, between, inRange, exactLengths}
 use Rattle.rules.specs.Steps.{Left, begun, readStep, readBytes, updated, owned, committing, aborted, evicted, due, compacted, closed, checkpointed, enteringAll, restarted, formatted}
 
@@ -186,7 +186,7 @@ restartCall s = settled (judgeRestart s) s [] (doneWith (restarted s) [])
 unfoldable pub judgeFormat : Lent → Params → ℕ → Verdict
 judgeFormat s g last =
     refuseIf (not (inRange g && leb last 4294967295)) (Argument Parameter)
-    (refuseIf (not (eqb (length (s .durable .fixed)) 20 && exactLengths s g)) (Argument LentLength)
+    (refuseIf (not (eqb (length (s .durable .fixed)) fixedLength && exactLengths s g)) (Argument LentLength)
     Go)
 
 unfoldable pub formatCall : Lent → Params → ℕ → Outcome

@@ -4,12 +4,13 @@ use mathlib.Core.Path.{_≡_}
 use mathlib.Core.Bool.{true}
 use lib.ListN.{length}
 use lib.Dec.{leb, ltb}
-use Rattle.rules.specs.Lent.{Lent, sizeOf, pagesOf, framesOf, onlineSizeOf, logSizeOf, loggedOf, countOf, usedOf, orderOf, entriesOf}
+use Rattle.record.specs.Record.{logWidth, onlineWidth}
+use Rattle.rules.specs.Lent.{Lent, fixedLength, marksLength, tablesLength, sizeOf, pagesOf, framesOf, onlineSizeOf, logSizeOf, loggedOf, countOf, usedOf, orderOf, entriesOf}
 use Rattle.rules.specs.Sound.{every}
 
 -- the parameters' ranges and the lengths of the areas
 pub record Sized (s : Lent) : Type 0 where
-  pub fixed : length (s .durable .fixed) ≡ 20
+  pub fixed : length (s .durable .fixed) ≡ fixedLength
   pub size-least : 512 ≤ sizeOf s
   pub size : sizeOf s ≤ 4096
   pub pages-least : 1 ≤ pagesOf s
@@ -18,11 +19,11 @@ pub record Sized (s : Lent) : Type 0 where
   pub frames : framesOf s ≤ 64
   pub online-size : onlineSizeOf s ≤ 512
   pub log-size : logSizeOf s ≤ 2048
-  pub marks : length (s .durable .marks) ≡ 12 + 8 * pagesOf s
-  pub log : length (s .durable .log) ≡ 14 * logSizeOf s
+  pub marks : length (s .durable .marks) ≡ marksLength (pagesOf s)
+  pub log : length (s .durable .log) ≡ logWidth * logSizeOf s
   pub stored : length (s .durable .stored) ≡ sizeOf s * pagesOf s
-  pub tables : length (s .lost .tables) ≡ 35 + framesOf s + pagesOf s
-  pub online : length (s .lost .online) ≡ 19 * onlineSizeOf s
+  pub tables : length (s .lost .tables) ≡ tablesLength (framesOf s) (pagesOf s)
+  pub online : length (s .lost .online) ≡ onlineWidth * onlineSizeOf s
   pub pool : length (s .lost .pool) ≡ sizeOf s * framesOf s
 
 -- with counts within sizes, entries and order that name frames

@@ -2,3 +2,4 @@
 pub mod Laws
 pub mod Went
 pub mod Once
+pub mod Clerks
