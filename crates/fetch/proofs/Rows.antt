@@ -1,4 +1,4 @@
--- Laws of an update's row: appended to the online table, read back from it, and its page.
+-- Laws of an update's row: appended to the online table, and read back from it.
 use Prim.Native.Nat.{ℕ, _+_, _*_, _-_, _≤_, _<_}
 use native.Mathlib.Omega.{arith}
 use mathlib.Core.Path.{_≡_, sym, ap, _∙_}
@@ -20,11 +20,6 @@ use Rattle.rules.specs.Shape.{Shaped}
 use Rattle.rules.specs.Steps.{freed, placed, placeOf, fetchedEntries, fetchedPool, updateTables, updated}
 use Rattle.table.proofs.Moves.{set-append-add}
 use Rattle.fetch.specs.Post.{SizesRead, PageFetched, PageUsed, UpdateDone}
-
--- an update's row has its page, and 19 bytes
-pub row-page : (p offset w kind v x : ℕ) → p < 65536 → pageOf (rowOf p offset w kind v x) ≡ p
-unfolding rowOf put num
-row-page p offset w kind v x h = omega arith
 
 -- a row that was written, read back
 pub row-back : (m : ℕ) (l r : List ℕ) → m * 19 ≤ length l → length r ≡ 19 → rowAt 19 (withPart (m * 19) 19 l r) m ≡ r

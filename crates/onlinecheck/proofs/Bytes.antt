@@ -10,7 +10,7 @@ use lib.Dec.{eqb, leb, ltb}
 use borrow.Author.Tests.{ltb-true, ltb-false, leb-true, leb-false, eqb-true, eqb-false, lt-ltb, le-ltb, le-leb, eq-eqb, ne-eqb, not-true}
 use Rattle.word.proofs.Tests.{and-both, so}
 use Rattle.record.specs.Rows.{rowAt, rows, keep, consIf}
-use Rattle.record.specs.Record.{pageOf, offsetOf, lengthOf, ownerOf, numberOf, committed, shareByte, isLength, wellFormed}
+use Rattle.record.specs.Record.{pageOf, offsetOf, lengthOf, ownerOf, numberOf, committed, shareByte, isLength, wellFormed, free}
 use Rattle.rules.specs.Sound.{every, pairs, upTo, between, apart}
 use Rattle.rules.proofs.Every.{every-kept, every-keep}
 use Rattle.onlinecheck.specs.Online.{owned, pageBelow}
@@ -172,7 +172,7 @@ placed-of r h =
 
 -- a row is free of the marks and of one row more, of the same page
 row-with : (p base : ℕ) (a r q : List ℕ) → length a ≡ 4096 → openOn p r ≡ true → openOn p q ≡ true → placed r ≡ true → placed q ≡ true → freeRow base a r ≡ true → freeRow base (withRow base a r) q ≡ (freeRow base a q && apart r q)
-unfolding freeRow withRow apart shareByte
+unfolding freeRow withRow apart free shareByte
 row-with p base a r q n or oq pr pq h =
     let c = and-both (eqb (pageOf r) p) (not (committed r)) or in
     let d = and-both (eqb (pageOf q) p) (not (committed q)) oq in
@@ -238,7 +238,7 @@ rows-most top base (r ∷ l) a h k f b =
 
 -- an uncommitted row is apart from all that are apart from it on its page
 apart-off : (r q : List ℕ) → openOn (pageOf r) q ≡ false → apart r q ≡ true
-unfolding apart shareByte
+unfolding apart free shareByte
 apart-off r q h = pick (committed q) (eqb (pageOf q) (pageOf r)) refl refl
   where
     pick : (x y : Bool) → committed q ≡ x → eqb (pageOf q) (pageOf r) ≡ y → apart r q ≡ true

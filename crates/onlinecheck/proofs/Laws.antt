@@ -13,7 +13,7 @@ use Rattle.word.specs.Word.{num}
 use Rattle.word.proofs.Tests.{and-both}
 use Rattle.record.specs.Part.{part}
 use Rattle.record.specs.Rows.{rowAt, rows}
-use Rattle.record.specs.Record.{pageOf, offsetOf, lengthOf, ownerOf, numberOf, committed, bodyOf, wellFormed, shareByte}
+use Rattle.record.specs.Record.{pageOf, offsetOf, lengthOf, ownerOf, numberOf, committed, bodyOf, wellFormed, shareByte, free}
 use Rattle.rules.specs.Lent.{Lent, sizeOf, pagesOf, framesOf, lastOf, loggedOf, countOf}
 use Rattle.rules.specs.Sound.{every, pairs, between, same, apart, owning, s7-online-records, s8-owners, s14-online-zero, s10-in-log, s11-above-stamp, s9-number-once, s12-dirty, s13-apart}
 use Rattle.onlinecheck.specs.Online.{owned, inLog, aboveStamp, rowTest, otherNumber, entryAgrees, pageBelow, onlineTest}
@@ -169,7 +169,7 @@ unfolding apart
 apart-free r q x y e f h = rw (← e, ← f, h)
 
 pub apart-row : (r q : List ℕ) (x y : ℕ) (b : Bool) → x ≡ ownerOf r → y ≡ ownerOf q → (eqb x 0 || eqb y 0 || eqb x y) ≡ false → b ≡ shareByte r q → not b ≡ apart r q
-unfolding apart
+unfolding apart free
 apart-row r q x y b e f h g = rw (← e, ← f, h, g)
 
 -- a committed row is apart from every other

@@ -16,7 +16,7 @@ use Rattle.record.proofs.Laws.{getD-part}
 use Rattle.rules.specs.Lent.{isDirty}
 use Rattle.rules.specs.Sound.{every, pairs, upTo, between, same, agree}
 use Rattle.onlinecheck.specs.Online.{owned, inLog, otherNumber, entryAgrees, pageBelow}
-use Rattle.onlinecheck.specs.Marks.{markPages, entryMarked, slotted, free, withNumber, allFree}
+use Rattle.onlinecheck.specs.Marks.{markPages, entryMarked, slotted, unmarked, withNumber, allUnmarked}
 use Rattle.onlinecheck.proofs.Rows.{and-swap, every-imp}
 use Rattle.onlinecheck.proofs.Laws.{formed-page}
 
@@ -128,33 +128,33 @@ length-number first a r = pick (eqb (numberOf r) 0)
     pick true = refl
     pick false = length-set a (numberOf r - first) 1
 
-free-each : (first : ℕ) (a r : List ℕ) → length a ≡ 2048 → slotted first r ≡ true → (l : List (List ℕ)) → every (slotted first) l ≡ true → every (free first (withNumber first a r)) l ≡ (every (free first a) l && every (otherNumber r) l)
-unfolding every free withNumber otherNumber
+free-each : (first : ℕ) (a r : List ℕ) → length a ≡ 2048 → slotted first r ≡ true → (l : List (List ℕ)) → every (slotted first) l ≡ true → every (unmarked first (withNumber first a r)) l ≡ (every (unmarked first a) l && every (otherNumber r) l)
+unfolding every unmarked withNumber otherNumber
 free-each first a r n f [] h = refl
 free-each first a r n f (q ∷ l) h =
     let g = and-both (slotted first q) (every (slotted first) l) h in
     rw (free-one first a (numberOf r) (numberOf q) n f (g .0), free-each first a r n f l (g .1))
-    (and-swap (free first a q) (otherNumber r q) (every (free first a) l) (every (otherNumber r) l))
+    (and-swap (unmarked first a q) (otherNumber r q) (every (unmarked first a) l) (every (otherNumber r) l))
 
 -- each row free when its turn comes: free of the marks at the start, and no number twice
-free-pairs : (first : ℕ) (l : List (List ℕ)) (a : List ℕ) → length a ≡ 2048 → every (slotted first) l ≡ true → allFree first l a ≡ (every (free first a) l && pairs otherNumber l)
-unfolding every pairs allFree
+free-pairs : (first : ℕ) (l : List (List ℕ)) (a : List ℕ) → length a ≡ 2048 → every (slotted first) l ≡ true → allUnmarked first l a ≡ (every (unmarked first a) l && pairs otherNumber l)
+unfolding every pairs allUnmarked
 free-pairs first [] a n h = refl
 free-pairs first (r ∷ l) a n h =
     let g = and-both (slotted first r) (every (slotted first) l) h in
     let k : length (withNumber first a r) ≡ 2048 = length-number first a r ∙ n in
     rw (free-pairs first l (withNumber first a r) k (g .1), free-each first a r n (g .0) l (g .1))
-    (shift (free first a r) (every (free first a) l) (every (otherNumber r) l) (pairs otherNumber l))
+    (shift (unmarked first a r) (every (unmarked first a) l) (every (otherNumber r) l) (pairs otherNumber l))
   where
     shift : (x u v w : Bool) → (x && (u && v && w)) ≡ (x && u && (v && w))
     shift true u v w = and-assoc u v w
     shift false u v w = refl
 
-free-start : (first : ℕ) (l : List (List ℕ)) → every (slotted first) l ≡ true → every (free first (replicate 2048 0)) l ≡ true
-unfolding free
-free-start first l h = every-imp (slotted first) (free first (replicate 2048 0)) one l h
+free-start : (first : ℕ) (l : List (List ℕ)) → every (slotted first) l ≡ true → every (unmarked first (replicate 2048 0)) l ≡ true
+unfolding unmarked
+free-start first l h = every-imp (slotted first) (unmarked first (replicate 2048 0)) one l h
   where
-    one : (r : List ℕ) → slotted first r ≡ true → free first (replicate 2048 0) r ≡ true
+    one : (r : List ℕ) → slotted first r ≡ true → unmarked first (replicate 2048 0) r ≡ true
     one r k = go (eqb (numberOf r) 0) refl
       where
         go : (x : Bool) → eqb (numberOf r) 0 ≡ x → (eqb (numberOf r) 0 || not (eqb (getD (replicate 2048 0) (numberOf r - first) 0) 1)) ≡ true
@@ -163,29 +163,29 @@ free-start first l h = every-imp (slotted first) (free first (replicate 2048 0))
             let b = and-both (leb first (numberOf r)) (ltb (numberOf r - first) 2048) (rw e at k) in
             rw (e, getD-replicate {A = ℕ} 2048 (numberOf r - first) 0 0 (ltb-true (numberOf r - first) 2048 (b .1)))
 
-pub free-once : (first : ℕ) (l : List (List ℕ)) → every (slotted first) l ≡ true → allFree first l (replicate 2048 0) ≡ pairs otherNumber l
+pub free-once : (first : ℕ) (l : List (List ℕ)) → every (slotted first) l ≡ true → allUnmarked first l (replicate 2048 0) ≡ pairs otherNumber l
 free-once first l h = free-pairs first l (replicate 2048 0) (length-replicate {A = ℕ} 2048 0) h ∙ (rw (free-start first l h))
 
 -- the loop
-pub free-none : (first w m : ℕ) (t a : List ℕ) → allFree first (rows w (m - 0) t 0) a ≡ allFree first (rows w m t 0) a
+pub free-none : (first w m : ℕ) (t a : List ℕ) → allUnmarked first (rows w (m - 0) t 0) a ≡ allUnmarked first (rows w m t 0) a
 free-none first w m t a = let n : m - 0 ≡ m = omega arith in rw n
 
-pub free-fail : (first w m : ℕ) (t : List ℕ) (i : ℕ) (a : List ℕ) (x z : Bool) → i < m → not x ≡ true → x ≡ free first a (rowAt w t i) → allFree first (rows w (m - i) t i) a ≡ z → false ≡ z
-unfolding allFree rows
+pub free-fail : (first w m : ℕ) (t : List ℕ) (i : ℕ) (a : List ℕ) (x z : Bool) → i < m → not x ≡ true → x ≡ unmarked first a (rowAt w t i) → allUnmarked first (rows w (m - i) t i) a ≡ z → false ≡ z
+unfolding allUnmarked rows
 free-fail first w m t i a x z p h e inv =
     let n : m - i ≡ suc (m - (i + 1)) = omega arith in
     let f = not-so _ _ e h in
     rw (n, f) at inv
 
-pub free-turn : (first w m : ℕ) (t : List ℕ) (i : ℕ) (a b : List ℕ) (x z : Bool) → i < m → not x ≡ false → x ≡ free first a (rowAt w t i) → b ≡ withNumber first a (rowAt w t i) → allFree first (rows w (m - i) t i) a ≡ z → allFree first (rows w (m - (i + 1)) t (i + 1)) b ≡ z
-unfolding allFree rows
+pub free-turn : (first w m : ℕ) (t : List ℕ) (i : ℕ) (a b : List ℕ) (x z : Bool) → i < m → not x ≡ false → x ≡ unmarked first a (rowAt w t i) → b ≡ withNumber first a (rowAt w t i) → allUnmarked first (rows w (m - i) t i) a ≡ z → allUnmarked first (rows w (m - (i + 1)) t (i + 1)) b ≡ z
+unfolding allUnmarked rows
 free-turn first w m t i a b x z p h e g inv =
     let n : m - i ≡ suc (m - (i + 1)) = omega arith in
     let f = so _ _ e h in
     rw g (rw (n, f) at inv)
 
-pub free-done : (first w m : ℕ) (t : List ℕ) (i : ℕ) (a : List ℕ) (z : Bool) → m ≤ i → allFree first (rows w (m - i) t i) a ≡ z → true ≡ z
-unfolding allFree rows
+pub free-done : (first w m : ℕ) (t : List ℕ) (i : ℕ) (a : List ℕ) (z : Bool) → m ≤ i → allUnmarked first (rows w (m - i) t i) a ≡ z → true ≡ z
+unfolding allUnmarked rows
 free-done first w m t i a z p inv = let n : m - i ≡ 0 = omega arith in rw n at inv
 
 -- a row's number, taken: its place, and the marks
@@ -195,12 +195,12 @@ slot-of first r k e h f =
     let b = and-both (leb first k) (ltb (k - first) 2048) g in
     (leb-true first k (b .0), ltb-true (k - first) 2048 (b .1))
 
-pub take-none : (first : ℕ) (a r : List ℕ) (k : ℕ) → k ≡ numberOf r → k ≡ 0 → (true ≡ free first a r) × (a ≡ withNumber first a r)
-unfolding free withNumber
+pub take-none : (first : ℕ) (a r : List ℕ) (k : ℕ) → k ≡ numberOf r → k ≡ 0 → (true ≡ unmarked first a r) × (a ≡ withNumber first a r)
+unfolding unmarked withNumber
 take-none first a r k e h = (rw (← e, h), rw (← e, h))
 
-pub take-one : (first : ℕ) (a r : List ℕ) (k : ℕ) → k ≡ numberOf r → (k ≡ 0 → ⊥) → (not (eqb (getD a (k - first) 0) 1) ≡ free first a r) × (set a (k - first) 1 ≡ withNumber first a r)
-unfolding free withNumber
+pub take-one : (first : ℕ) (a r : List ℕ) (k : ℕ) → k ≡ numberOf r → (k ≡ 0 → ⊥) → (not (eqb (getD a (k - first) 0) 1) ≡ unmarked first a r) × (set a (k - first) 1 ≡ withNumber first a r)
+unfolding unmarked withNumber
 take-one first a r k e h = (rw (← e, ne-eqb k 0 h), rw (← e, ne-eqb k 0 h))
 
 -- what the clauses of the rows by themselves give to the others
