@@ -10,7 +10,7 @@ ghost use Rattle.rules.specs.Lent.{pagesOf, lastOf, loggedOf};
 ghost use Rattle.rules.specs.Areas.{areas, before, after};
 ghost use Rattle.rules.specs.Shape.{Shaped};
 ghost use Rattle.rules.specs.Steps.{compactStep, checkpointed};
-ghost use Rattle.onlinecheck.specs.Marks.{markPages};
+ghost use Rattle.table.specs.Marks.{markPages};
 ghost use Rattle.checkpoint.specs.Noted.{Noted};
 ghost use Rattle.checkpoint.specs.After.{After};
 use compact::Compacted;

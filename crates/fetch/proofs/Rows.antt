@@ -12,7 +12,7 @@ use Rattle.record.specs.Rows.{rowAt, rows, joined, table}
 use Rattle.record.specs.Record.{pageOf, apply, rowOf}
 use Rattle.record.proofs.Laws.{drop-zeros}
 use Rattle.rules.proofs.Every.{zeros-are}
-use Rattle.table.proofs.Laws.{length-rows, joined-all}
+use Rattle.record.proofs.Rows.{length-rows, joined-all}
 use Rattle.order.specs.Order.{touched}
 use Rattle.rules.specs.Lent.{Lent, sizeOf, pagesOf, framesOf, roomOf, countOf, orderOf, entryAt, entryOf, entriesOf, onlineOf, inFrame, dirtyIn, pageIn, withPage, withOrder, withCount}
 use Rattle.rules.specs.Sound.{zeros}

@@ -11,14 +11,14 @@ use borrow.Author.Tests.{eqb-true, eqb-false, eq-eqb, ne-eqb, lt-ltb, le-leb}
 use Rattle.record.specs.Rows.{keep, consIf, any}
 use Rattle.record.specs.Record.{pageOf, offsetOf, lengthOf, ownerOf, committed, isLength, wellFormed, apply, applied, rowOf, onPage, shareByte}
 use Rattle.record.proofs.Laws.{length-most}
-use Rattle.apply.proofs.Laws.{length-apply}
+use Rattle.record.proofs.Changes.{length-apply}
 use Rattle.order.specs.Order.{touched, frameFor}
-use Rattle.table.proofs.Laws.{length-rowOf}
+use Rattle.record.proofs.Rows.{length-rowOf}
 use Rattle.rules.specs.Lent.{Lent, sizeOf, pagesOf, framesOf, roomOf, countOf, orderOf, entryOf, entriesOf, onlineOf, inFrame, frameOf, isDirty, dirtyIn, pageIn, withPage}
 use Rattle.rules.specs.Steps.{placed, placeOf, rebuilt, fetchedEntries, fetchedPool, readStep, updated}
 use Rattle.rules.specs.Calls.{heldToUpdate}
 use Rattle.rules.specs.Sound.{every, apart}
-use Rattle.onlinecheck.proofs.Rows.{every-imp}
+use Rattle.rules.proofs.Every.{every-imp}
 use Rattle.redo.proofs.View.{applied-append, keep-append}
 use Rattle.redo.proofs.Views.{keep-none}
 use Rattle.redo.proofs.Loose.{then, ≅-equal, ≅-before, ≅-any}

@@ -10,8 +10,7 @@ use Rattle.rules.specs.Lent.{Lent, sizeOf, pagesOf, lastOf, onlineOf}
 use Rattle.rules.specs.Sound.{every, apart}
 use Rattle.rules.specs.Calls.{isLive, clashes, heldToRead, heldToUpdate}
 use Rattle.rules.proofs.Extremes.{numberAtMost}
-use Rattle.rules.proofs.Every.{every-keep}
-use Rattle.onlinecheck.proofs.Rows.{every-imp}
+use Rattle.rules.proofs.Every.{every-keep, every-imp}
 use Rattle.redo.proofs.Loose.{≅-any, ≅-owned}
 use Rattle.redo.proofs.Numbered.{every-not-owned}
 use Rattle.history.specs.Past.{Past}

@@ -16,8 +16,7 @@ use Rattle.record.specs.Rows.{rowAt, rows, keep, any}
 use Rattle.record.specs.Record.{ownerOf, numberOf, committed, bodyOf, onPage, entered, wellFormed, free}
 use Rattle.rules.specs.Lent.{Lent, sizeOf, pagesOf, framesOf, roomOf, spanOf, lastOf, closedOf, loggedOf, stampOf, dirtyOf, firstOf, logOf, countOf, usedOf, liveOf, entriesOf, onlineOf, isDirty}
 use Rattle.rules.specs.Sound.{every, pairs, upTo, zeros, between, inRange, agree, apart, same, owning, exactLengths, s1-parameters, s2-lengths, s3-logged, s16-logged, s18-first, s15-stamps, s17-s19-dirty, s7-log-records, s14-log-zero, soundDurable, s3-counts, s20-live, s4-entries, s5-frame-once, s6-order, s14-order-zero, s7-online-records, s8-owners, s14-online-zero, s10-in-log, s11-above-stamp, s9-number-once, s12-dirty, s13-apart, soundLost, sound}
-use Rattle.rules.proofs.Every.{or-left, or-right, every-keep}
-use Rattle.onlinecheck.proofs.Rows.{every-imp}
+use Rattle.rules.proofs.Every.{or-left, or-right, every-keep, every-imp}
 use Rattle.redo.proofs.Order.{free-sym, pairs-imp}
 use Rattle.redo.proofs.Views.{rising}
 use Rattle.redo.proofs.Loose.{≅-sym, ≅-pairs-true}

@@ -12,13 +12,13 @@ use Rattle.word.proofs.Tests.{and-both, and-in}
 use Rattle.record.specs.Rows.{rowAt, rows, keep, consIf, any}
 use Rattle.record.specs.Record.{entered}
 use Rattle.rules.proofs.Every.{every-kept-where, every-keep}
-use Rattle.table.proofs.Laws.{Wide, none, one}
+use Rattle.record.proofs.Rows.{Wide, none, one}
 use Rattle.rules.specs.Sound.{every, pairs, upTo, same}
 use Rattle.redo.proofs.View.{keep-append}
 use Rattle.redo.proofs.Views.{keep-none}
 use Rattle.redo.proofs.Loose.{_≅_, numberedFrom, ≅-every}
 use Rattle.seats.proofs.Loops.{any-by}
-use Rattle.seats.proofs.Counting.{upTo-all as upTo-from}
+use Rattle.rules.proofs.Walks.{upTo-all as upTo-from}
 
 -- what follows from a test that holds
 or-of : (a b : Bool) → a ≡ true → (not a || b) ≡ true → b ≡ true
@@ -27,7 +27,7 @@ or-of false b h k = let z : _≡_ {A = ℕ} 0 1 = cc in absurd (omega arith)
 
 -- each of n numbers passes a test
 pub upTo-all : (b : ℕ → Bool) (n : ℕ) → ((i : ℕ) → i < n → b i ≡ true) → upTo b n 0 ≡ true
-upTo-all b n h = upTo-from b n 0 (λ i k. ap b (omega arith) ∙ h i k)
+upTo-all b n h = upTo-from b n 0 (λ i _ k. h i (omega arith))
 
 -- every row: behind some, all, appended, before others
 pub every-drop : (b : List ℕ → Bool) (n : ℕ) (l : List (List ℕ)) → every b l ≡ true → every b (drop n l) ≡ true

@@ -8,51 +8,17 @@ use lib.ListN.{length, getD, set, replicate, length-set, length-replicate}
 use lib.Seq.{getD-set-same, getD-set-other, set-out}
 use lib.Dec.{eqb, leb, ltb}
 use borrow.Author.Tests.{ltb-true, ltb-false, leb-true, leb-false, eqb-true, eqb-false, lt-ltb, le-ltb, le-leb, eq-eqb, ne-eqb, not-true}
-use Rattle.word.proofs.Tests.{and-both, so}
+use Rattle.word.proofs.Tests.{and-both, so, and-swap}
 use Rattle.record.specs.Rows.{rowAt, rows, keep, consIf}
 use Rattle.record.specs.Record.{pageOf, offsetOf, lengthOf, ownerOf, numberOf, committed, shareByte, isLength, wellFormed, free}
 use Rattle.rules.specs.Sound.{every, pairs, upTo, between, apart}
 use Rattle.rules.proofs.Every.{every-kept, every-keep}
-use Rattle.onlinecheck.specs.Online.{owned, pageBelow}
+use Rattle.rules.specs.Shape.{pageBelow}
+use Rattle.onlinecheck.specs.Online.{owned}
 use Rattle.onlinecheck.specs.Bytes.{openOn, placed, Chain, Linked, Passed, freeByte, markBytes, freeRow, withRow, freeRows, withRows}
-use Rattle.onlinecheck.proofs.Rows.{and-swap, upTo-fail, upTo-turn, upTo-done}
+use Rattle.rules.proofs.Walks.{not-both, upTo-at, upTo-all, upTo-not, upTo-alike, upTo-fail, upTo-turn, upTo-done}
 use Rattle.onlinecheck.proofs.Laws.{apart-all}
 use Rattle.onlinecheck.proofs.Chains.{chain-none, chain-one, chain-first}
-
-not-both : (x : Bool) → x ≡ true → x ≡ false → ⊥
-not-both x a b = let z : _≡_ {A = ℕ} 0 1 = cc in omega arith
-
--- tests of the n numbers from i on
-upTo-at : (b : ℕ → Bool) (n i k : ℕ) → i ≤ k → k < i + n → upTo b n i ≡ true → b k ≡ true
-unfolding upTo
-upTo-at b zero i k p q h = absurd (omega arith)
-upTo-at b (suc n) i k p q h = pick (eqb i k) refl (λ u. upTo-at b n (i + 1) k u (omega arith) (and-both (b i) (upTo b n (i + 1)) h .1))
-  where
-    pick : (x : Bool) → eqb i k ≡ x → (i + 1 ≤ k → b k ≡ true) → b k ≡ true
-    pick true e f = rw (eqb-true i k e) at (and-both (b i) (upTo b n (i + 1)) h .0)
-    pick false e f =
-        let d : (i ≡ k → ⊥) = eqb-false i k e in
-        f (omega arith)
-
-upTo-all : (b : ℕ → Bool) (n i : ℕ) → ((k : ℕ) → i ≤ k → k < i + n → b k ≡ true) → upTo b n i ≡ true
-unfolding upTo
-upTo-all b zero i f = refl
-upTo-all b (suc n) i f = rw (f i (omega arith) (omega arith)) (upTo-all b n (i + 1) (λ k p q. f k (omega arith) (omega arith)))
-
-upTo-not : (b : ℕ → Bool) (n i k : ℕ) → i ≤ k → k < i + n → b k ≡ false → upTo b n i ≡ false
-upTo-not b n i k p q h = pick (upTo b n i) refl
-  where
-    pick : (x : Bool) → upTo b n i ≡ x → upTo b n i ≡ false
-    pick true e = absurd (not-both (b k) (upTo-at b n i k p q e) h)
-    pick false e = e
-
-upTo-alike : (b d : ℕ → Bool) (n i : ℕ) → ((k : ℕ) → i ≤ k → k < i + n → b k ≡ d k) → upTo b n i ≡ upTo d n i
-unfolding upTo
-upTo-alike b d zero i f = refl
-upTo-alike b d (suc n) i f =
-    let e = f i (omega arith) (omega arith) in
-    let g = upTo-alike b d n (i + 1) (λ k p q. f k (omega arith) (omega arith)) in
-    rw (e, g)
 
 -- marks of n bytes from k on: outside, within, how many, how great
 mark-out : (mine n k : ℕ) (a : List ℕ) (b : ℕ) → (k ≤ b → b < k + n → ⊥) → getD (markBytes mine n k a) b 0 ≡ getD a b 0

@@ -16,8 +16,10 @@ use Rattle.record.specs.Rows.{rowAt, rows}
 use Rattle.record.specs.Record.{pageOf, offsetOf, lengthOf, ownerOf, numberOf, committed, bodyOf, wellFormed, shareByte, free}
 use Rattle.rules.specs.Lent.{Lent, sizeOf, pagesOf, framesOf, lastOf, loggedOf, countOf}
 use Rattle.rules.specs.Sound.{every, pairs, between, same, apart, owning, s7-online-records, s8-owners, s14-online-zero, s10-in-log, s11-above-stamp, s9-number-once, s12-dirty, s13-apart}
-use Rattle.onlinecheck.specs.Online.{owned, inLog, aboveStamp, rowTest, otherNumber, entryAgrees, pageBelow, onlineTest}
-use Rattle.onlinecheck.proofs.Rows.{every-both, every-imp}
+use Rattle.rules.specs.Shape.{pageBelow}
+use Rattle.onlinecheck.specs.Online.{owned, inLog, aboveStamp, rowTest, otherNumber, entryAgrees, onlineTest}
+use Rattle.rules.proofs.Every.{every-imp}
+use Rattle.onlinecheck.proofs.Rows.{every-both}
 
 -- the test is soundness's clauses about the online table
 pub online-is : (s : Lent) → onlineTest (s .lost .online) (countOf s) (s .durable .log) (loggedOf s) (s .durable .marks) (s .lost .tables) (sizeOf s) (pagesOf s) (framesOf s) (lastOf s) ≡ (s7-online-records s && s8-owners s && s14-online-zero s && s10-in-log s && s11-above-stamp s && s9-number-once s && s12-dirty s && s13-apart s)
@@ -25,13 +27,6 @@ unfolding owned owning inLog aboveStamp otherNumber entryAgrees onlineTest s7-on
 online-is s = refl
 
 -- S7: what later clauses take from it
-pub formed-below : (size pages : ℕ) (r : List ℕ) → wellFormed size pages r ≡ true → pageBelow pages r ≡ true
-unfolding wellFormed
-formed-below size pages r k = and-both _ _ (and-both _ _ (and-both _ _ (and-both _ _ k .0) .0) .0) .0
-
-pub formed-page : (size pages : ℕ) (l : List (List ℕ)) → every (wellFormed size pages) l ≡ true → every (pageBelow pages) l ≡ true
-formed-page size pages l h = every-imp (wellFormed size pages) (pageBelow pages) (formed-below size pages) l h
-
 -- S8
 pub owned-committed : (tables : List ℕ) (last : ℕ) (r : List ℕ) (x k : ℕ) → x ≡ ownerOf r → k ≡ numberOf r → x ≡ 0 → (leb 1 k && leb k last) ≡ owned tables last r
 unfolding owned

@@ -8,50 +8,27 @@ use lib.ListN.{length, getD, set, replicate, length-set, length-replicate, getD-
 use lib.Seq.{getD-set-same, getD-set-other}
 use lib.Dec.{eqb, leb, ltb}
 use borrow.Author.Tests.{ltb-true, leb-true, eqb-true, eqb-false, lt-ltb, eq-eqb, ne-eqb}
-use Rattle.word.proofs.Tests.{and-both, so, not-so}
+use Rattle.word.proofs.Tests.{and-both, so, not-so, and-swap}
 use Rattle.record.specs.Part.{part}
 use Rattle.record.specs.Rows.{rowAt, rows, any}
 use Rattle.record.specs.Record.{pageOf, ownerOf, numberOf, committed, bodyOf, onPage, wellFormed}
 use Rattle.record.proofs.Laws.{getD-part}
 use Rattle.rules.specs.Lent.{isDirty}
 use Rattle.rules.specs.Sound.{every, pairs, upTo, between, same, agree}
-use Rattle.onlinecheck.specs.Online.{owned, inLog, otherNumber, entryAgrees, pageBelow}
-use Rattle.onlinecheck.specs.Marks.{markPages, entryMarked, slotted, unmarked, withNumber, allUnmarked}
-use Rattle.onlinecheck.proofs.Rows.{and-swap, every-imp}
-use Rattle.onlinecheck.proofs.Laws.{formed-page}
-
--- S12: a page is marked if it was, or if a row is of it
-pub marked-any : (p : ℕ) (rs : List (List ℕ)) (a : List ℕ) → p < length a → eqb (getD (markPages rs a) p 0) 1 ≡ (eqb (getD a p 0) 1 || any (onPage p) rs)
-unfolding markPages any
-marked-any p [] a h = sym (or-false (eqb (getD a p 0) 1))
-marked-any p (r ∷ rs) a h = marked-any p rs (set a (pageOf r) 1) (rw length-set h) ∙ one (eqb (pageOf r) p) refl
-  where
-    one : (x : Bool) → eqb (pageOf r) p ≡ x → (eqb (getD (set a (pageOf r) 1) p 0) 1 || any (onPage p) rs) ≡ (eqb (getD a p 0) 1 || (eqb (pageOf r) p || any (onPage p) rs))
-    one true e =
-        let f : pageOf r ≡ p = eqb-true (pageOf r) p e in
-        rw (f, getD-set-same a p 1 0 h, eq-eqb p p refl) (sym (or-true (eqb (getD a p 0) 1)))
-    one false e = rw (e, getD-set-other a (pageOf r) p 1 0 (λ f. eqb-false (pageOf r) p e (sym f)))
-
-upTo-same : (b d : ℕ → Bool) (k : ℕ) → ((p : ℕ) → p < k → b p ≡ d p) → (n i : ℕ) → i + n ≤ k → upTo b n i ≡ upTo d n i
-unfolding upTo
-upTo-same b d k f zero i h = refl
-upTo-same b d k f (suc n) i h =
-    let l : i < k = omega arith in
-    let m : i + 1 + n ≤ k = omega arith in
-    rw (f i l, upTo-same b d k f n (i + 1) m)
+use Rattle.rules.specs.Shape.{pageBelow}
+use Rattle.onlinecheck.specs.Online.{owned, inLog, otherNumber, entryAgrees}
+use Rattle.rules.proofs.Walks.{upTo-alike}
+use Rattle.table.specs.Marks.{markPages}
+use Rattle.table.proofs.Marks.{marked-page}
+use Rattle.onlinecheck.specs.Marks.{entryMarked, slotted, unmarked, withNumber, allUnmarked}
+use Rattle.rules.proofs.Every.{every-imp}
+use Rattle.rules.proofs.Clauses.{formed-page}
 
 -- so from no marks, entries agree with marks as they do with rows
 pub marked-agree : (entries : List ℕ) (rs : List (List ℕ)) (a : List ℕ) (pages : ℕ) (x : Bool) → pages ≤ 1024 → a ≡ markPages rs (replicate 1024 0) → x ≡ upTo (entryMarked entries a) pages 0 → x ≡ upTo (entryAgrees entries rs) pages 0
 unfolding entryMarked entryAgrees
-marked-agree entries rs a pages x h e g = g ∙ upTo-same (entryMarked entries a) (entryAgrees entries rs) pages one pages 0 (omega arith)
-  where
-    one : (p : ℕ) → p < pages → agree (isDirty (getD entries p 0)) (eqb (getD a p 0) 1) ≡ agree (isDirty (getD entries p 0)) (any (onPage p) rs)
-    one p l =
-        let k : p < 1024 = omega arith in
-        let n : length {A = ℕ} (replicate 1024 0) ≡ 1024 = length-replicate {A = ℕ} 1024 0 in
-        let q : p < length {A = ℕ} (replicate 1024 0) = rw n k in
-        let f : eqb (getD a p 0) 1 ≡ any (onPage p) rs = ap (λ (x : List ℕ). eqb (getD x p 0) 1) e ∙ marked-any p rs (replicate 1024 0) q ∙ (rw (getD-replicate {A = ℕ} 1024 p 0 0 k)) in
-        rw f
+marked-agree entries rs a pages x h e g =
+    g ∙ upTo-alike (entryMarked entries a) (entryAgrees entries rs) pages 0 (λ p _ l. ap (λ (b : Bool). agree (isDirty (getD entries p 0)) b) (marked-page rs a p (omega arith) e))
 
 pub pages-within : (pages : ℕ) (l : List (List ℕ)) → pages ≤ 1024 → every (pageBelow pages) l ≡ true → every (pageBelow 1024) l ≡ true
 pages-within pages l h k = every-imp (pageBelow pages) (pageBelow 1024) (λ r e. lt-ltb (pageOf r) 1024 (omega (arith, ltb-true (pageOf r) pages e))) l k

@@ -4,14 +4,9 @@ use mathlib.Core.Bool.{Bool, true, cond, not, _&&_, _||_}
 use mathlib.Core.List.{List, [], _∷_}
 use lib.ListN.{getD, set}
 use lib.Dec.{eqb, leb, ltb}
-use Rattle.record.specs.Record.{pageOf, numberOf}
+use Rattle.record.specs.Record.{numberOf}
 use Rattle.rules.specs.Lent.{isDirty}
 use Rattle.rules.specs.Sound.{agree}
-
--- marks with one at each row's page
-unfoldable pub markPages : List (List ℕ) → List ℕ → List ℕ
-markPages [] a = a
-markPages (r ∷ rs) a = markPages rs (set a (pageOf r) 1)
 
 -- the entry of page p is dirty exactly if the page is marked
 unfoldable pub entryMarked : List ℕ → List ℕ → ℕ → Bool

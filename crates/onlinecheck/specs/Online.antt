@@ -35,10 +35,6 @@ entryAgrees entries rs p = agree (isDirty (getD entries p 0)) (any (onPage p) rs
 abbrev pub rowTest : List ℕ → List ℕ → List ℕ → ℕ → ℕ → ℕ → ℕ → List ℕ → Bool
 rowTest tables log marks size pages last first r = wellFormed size pages r && owned tables last r && inLog log first r && aboveStamp marks r
 
--- what S7 says of each row, as far as a later clause leans on it
-abbrev pub pageBelow : ℕ → List ℕ → Bool
-pageBelow pages r = ltb (pageOf r) pages
-
 -- S7, S8, S14, S10, S11, S9, S12, S13
 unfoldable pub onlineTest : List ℕ → ℕ → List ℕ → ℕ → List ℕ → List ℕ → ℕ → ℕ → ℕ → ℕ → Bool
 onlineTest online m log n marks tables size pages frames last =

@@ -8,7 +8,7 @@ ghost use lib.ListN.{length};
 ghost use Rattle.record.specs.Rows.{rowAt, rows, keep};
 ghost use Rattle.record.specs.Record.{pageOf};
 ghost use Rattle.rules.specs.Sound.{every, pairs, upTo, apart};
-ghost use Rattle.onlinecheck.specs.Online.{pageBelow};
+ghost use Rattle.rules.specs.Shape.{pageBelow};
 ghost use Rattle.onlinecheck.specs.Bytes.{openOn, placed, Chain, Linked, Passed, headsWith, afterWith, freeByte, markBytes, freeRow, withRow, freeRows, withRows};
 use super::few;
 

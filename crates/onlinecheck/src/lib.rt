@@ -8,7 +8,8 @@ ghost use Rattle.record.specs.Part.{part};
 ghost use Rattle.record.specs.Rows.{rows};
 ghost use Rattle.record.specs.Record.{wellFormed};
 ghost use Rattle.rules.specs.Sound.{every, pairs, upTo, zeros, apart};
-ghost use Rattle.onlinecheck.specs.Online.{owned, inLog, aboveStamp, otherNumber, entryAgrees, pageBelow, onlineTest};
+ghost use Rattle.rules.specs.Shape.{pageBelow};
+ghost use Rattle.onlinecheck.specs.Online.{owned, inLog, aboveStamp, otherNumber, entryAgrees, onlineTest};
 ghost use Rattle.onlinecheck.specs.Marks.{slotted};
 ghost use Rattle.onlinecheck.specs.Bytes.{placed};
 

@@ -12,7 +12,7 @@ use borrow.Author.Tests.{eqb-true, not-true}
 use Rattle.word.proofs.Tests.{and-both}
 use Rattle.record.specs.Rows.{keep, consIf}
 use Rattle.record.specs.Record.{ownerOf, committed, ownedBy, bodyOf, numbered, entered, numberRows, free}
-use Rattle.table.proofs.Laws.{Wide, none, one}
+use Rattle.record.proofs.Rows.{Wide, none, one}
 use Rattle.rules.specs.Sound.{every, pairs, apart}
 use Rattle.redo.proofs.View.{body-free, entered-body}
 use Rattle.redo.proofs.Loose.{loose, make-loose, _≅_, still, exchange, under, then, numberedFrom, ≅-equal, ≅-after, owned-open}

@@ -18,9 +18,9 @@ use Rattle.word.proofs.Tests.{and-both}
 use Rattle.record.specs.Rows.{keep}
 use Rattle.record.specs.Record.{pageOf, offsetOf, lengthOf, kindOf, valueOf, ownerOf, numberOf, committed, ownedBy, bodyOf, wellFormed, rowOf, numbered, entered}
 use Rattle.record.proofs.Laws.{numbered-owner}
-use Rattle.table.proofs.Laws.{Wide, none, one, length-numbered, length-entered}
+use Rattle.record.proofs.Rows.{Wide, none, one, length-numbered, length-entered}
 use Rattle.rules.specs.Sound.{every, pairs}
-use Rattle.onlinecheck.proofs.Rows.{every-imp}
+use Rattle.rules.proofs.Every.{every-imp}
 use Rattle.redo.proofs.Bytes.{Agree, num-agree, put-outside, put-inside}
 use Rattle.redo.proofs.View.{SameBody, body-page, body-offset, body-length, numbered-body, entered-body}
 use Rattle.redo.proofs.Views.{keep-all, keep-none}

@@ -9,10 +9,9 @@ use borrow.Author.Tests.{eqb-true, eqb-false, eq-eqb, ne-eqb, not-true}
 use Rattle.word.proofs.Tests.{and-both}
 use Rattle.record.specs.Rows.{keep, consIf}
 use Rattle.record.specs.Record.{pageOf, offsetOf, lengthOf, apply, applied, shareByte, free}
-use Rattle.rules.proofs.Every.{every-kept-where}
-use Rattle.apply.proofs.Laws.{applied-keep}
+use Rattle.rules.proofs.Every.{every-kept-where, every-imp}
+use Rattle.record.proofs.Changes.{applied-keep}
 use Rattle.rules.specs.Sound.{every, pairs}
-use Rattle.onlinecheck.proofs.Rows.{every-imp}
 use Rattle.redo.proofs.Commute.{apply-commutes}
 
 eqb-sym : (a b : ℕ) → eqb a b ≡ eqb b a

@@ -15,12 +15,11 @@ use Rattle.record.specs.Part.{part}
 use Rattle.record.specs.Rows.{keep, any}
 use Rattle.record.specs.Record.{pageOf, offsetOf, lengthOf, kindOf, valueOf, ownerOf, numberOf, committed, apply, applied, onPage, committedOn, ownedBy, shareByte, free, overlaps}
 use Rattle.record.proofs.Parts.{length-part}
-use Rattle.rules.proofs.Every.{every-kept-where}
-use Rattle.apply.proofs.Laws.{length-applied}
+use Rattle.rules.proofs.Every.{every-kept-where, every-imp}
+use Rattle.record.proofs.Changes.{length-applied}
 use Rattle.rules.specs.Lent.{stampAt}
 use Rattle.rules.specs.Sound.{every, pairs, apart}
 use Rattle.rules.specs.Calls.{clashes}
-use Rattle.onlinecheck.proofs.Rows.{every-imp}
 use Rattle.redo.proofs.Bytes.{Agree, change-outside}
 use Rattle.redo.proofs.Commute.{Disjoint, ranges, disjoint-outside}
 use Rattle.redo.proofs.Order.{_≈_, as-is, swap, behind, both, parts, ≈-picked, stable-partition}

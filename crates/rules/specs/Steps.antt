@@ -25,6 +25,10 @@ pub record Left : Type 0 where
 abbrev pub left : Lent → ℕ → ℕ → ℕ → Left
 left s r w l = record { lent = s; reads = r; writes = w; logs = l }
 
+-- one step after another: the bytes of the later, and "the sum of its steps" as counts
+abbrev pub andThen : Left → Left → Left
+andThen d e = left (e .lent) (d .reads + e .reads) (d .writes + e .writes) (d .logs + e .logs)
+
 -- "Begin makes the number live."
 unfoldable pub begun : Lent → ℕ → Left
 begun s x = left (lostNow s (set (s .lost .tables) (liveAt x) 1) (s .lost .online) (s .lost .pool)) 0 0 0
@@ -191,13 +195,13 @@ afterPages minDel maxAge zero s = left s 0 0 0
 afterPages minDel maxAge (suc j) s = onward (afterPages minDel maxAge j s)
   where
     onward : Left → Left
-    onward d = left (compactStep minDel maxAge (d .lent) j .lent) (d .reads + compactStep minDel maxAge (d .lent) j .reads) (d .writes + compactStep minDel maxAge (d .lent) j .writes) 0
+    onward d = andThen d (compactStep minDel maxAge (d .lent) j)
 
 unfoldable pub checkpointed : ℕ → ℕ → Lent → Left
 checkpointed minDel maxAge s = then-close (afterPages minDel maxAge (pagesOf s) s)
   where
     then-close : Left → Left
-    then-close d = left (closed (d .lent) .lent) (d .reads) (d .writes) 1
+    then-close d = andThen d (closed (d .lent))
 
 -- Restart. "one numbered at most K whose page's dirty number is 0 is passed over; one numbered at most the page's stamp is passed over; any other enters"
 abbrev pub enters : Lent → ℕ → List ℕ → Bool

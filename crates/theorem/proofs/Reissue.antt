@@ -12,7 +12,7 @@ use borrow.Author.Tests.{ne-eqb}
 use Rattle.record.specs.Part.{part}
 use Rattle.record.specs.Rows.{keep, consIf}
 use Rattle.record.specs.Record.{committed, applied, onPage, committedOn, ownedBy, rowOf}
-use Rattle.table.proofs.Laws.{length-rowOf}
+use Rattle.record.proofs.Rows.{length-rowOf}
 use Rattle.rules.specs.declared.Answer.{Answer}
 use Rattle.rules.specs.declared.Answer.the-variants.{Done, NotDue, Refused}
 use Rattle.rules.specs.declared.Counts.{Counts}

@@ -6,7 +6,7 @@ use denote.Ref.{now}
 use borrow.Author.Needs.{needs}
 use Rattle.record.specs.Record.{rowOf}
 use Rattle.rules.specs.Areas.{areas}
-use Rattle.table.proofs.Laws.{length-rowOf}
+use Rattle.record.proofs.Rows.{length-rowOf}
 use Rattle.fetch.proofs.Laws.{used-fits}
 use Rattle.record.proofs.Fields.{row-page}
 use Rattle.fetch.proofs.Rows.{updated-row}
