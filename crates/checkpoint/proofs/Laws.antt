@@ -21,7 +21,7 @@ use Rattle.compact.proofs.Laws.{step-not}
 use Rattle.rules.proofs.Kept.{fixed-step, last-step, logged-step, logs-pages}
 use Rattle.compact.proofs.Shapes.{shaped-step, foldable-step}
 use Rattle.checkpoint.specs.Noted.{Noted}
-use Rattle.checkpoint.specs.After.{After}
+use Rattle.checkpoint.specs.Halfway.{Halfway}
 
 -- an open row leaves the marks as they are, a committed one does not
 pub row-open : (r y z : List ℕ) (o : ℕ) → o ≡ ownerOf r → (o ≡ 0 → ⊥) → z ≡ cond (committed r) y z
@@ -94,7 +94,7 @@ step-writes minDel maxAge s p = go (due s p minDel maxAge)
     go false = omega arith
 
 -- nothing compacted yet
-pub after-none : (minDel maxAge : ℕ) (o : Lent) → Shaped o → loggedOf o ≤ lastOf o → After minDel maxAge o o 0 0 0
+pub after-none : (minDel maxAge : ℕ) (o : Lent) → Shaped o → loggedOf o ≤ lastOf o → Halfway minDel maxAge o o 0 0 0
 unfolding afterPages
 after-none minDel maxAge o w h =
     record {
@@ -122,7 +122,7 @@ after-writes : (minDel maxAge j : ℕ) (o : Lent) → afterPages minDel maxAge (
 unfolding afterPages
 after-writes minDel maxAge j o = refl
 
-module _ (minDel maxAge : ℕ) (o s : Lent) (reads writes j : ℕ) (a : After minDel maxAge o s reads writes j) where
+module _ (minDel maxAge : ℕ) (o s : Lent) (reads writes j : ℕ) (a : Halfway minDel maxAge o s reads writes j) where
   -- what the next compaction asks
   pub next-there : (n : ℕ) → n ≡ pagesOf o → j < n → j < pagesOf s
   next-there n k h = rw (a .fixed, ← k) h
@@ -136,7 +136,7 @@ module _ (minDel maxAge : ℕ) (o s : Lent) (reads writes j : ℕ) (a : After mi
 
   pub after-more : (s′ : Lent) (r w n : ℕ) → n ≡ pagesOf o → j < n
       → (r ≡ compactStep minDel maxAge s j .reads) × ((w ≡ compactStep minDel maxAge s j .writes) × (s′ ≡ compactStep minDel maxAge s j .lent))
-      → After minDel maxAge o s′ (reads + r) (writes + w) (j + 1)
+      → Halfway minDel maxAge o s′ (reads + r) (writes + w) (j + 1)
   after-more s′ r w n k h e =
       let h′ : j < pagesOf s = next-there n k h in
       let l : s′ ≡ compactStep minDel maxAge s j .lent = e .1 .1 in
@@ -163,8 +163,8 @@ module _ (minDel maxAge : ℕ) (o s : Lent) (reads writes j : ℕ) (a : After mi
       }
 
   -- the last page had its turn
-  pub after-last : (n : ℕ) → n ≡ pagesOf o → n ≤ j → After minDel maxAge o s reads writes (pagesOf o)
-  after-last n m h = let k : j ≡ pagesOf o = omega (arith, a .within) in subst (λ (x : ℕ). After minDel maxAge o s reads writes x) k a
+  pub after-last : (n : ℕ) → n ≡ pagesOf o → n ≤ j → Halfway minDel maxAge o s reads writes (pagesOf o)
+  after-last n m h = let k : j ≡ pagesOf o = omega (arith, a .within) in subst (λ (x : ℕ). Halfway minDel maxAge o s reads writes x) k a
 
   -- the areas are as long as at the start
   pub same-lengths : Shaped o
@@ -180,7 +180,7 @@ module _ (minDel maxAge : ℕ) (o s : Lent) (reads writes j : ℕ) (a : After mi
       )
 
 -- close after the last
-pub after-all : (minDel maxAge : ℕ) (o s s′ : Lent) (reads writes : ℕ) → After minDel maxAge o s reads writes (pagesOf o) → s′ ≡ closed s .lent
+pub after-all : (minDel maxAge : ℕ) (o s s′ : Lent) (reads writes : ℕ) → Halfway minDel maxAge o s reads writes (pagesOf o) → s′ ≡ closed s .lent
     → (reads ≡ checkpointed minDel maxAge o .reads) × ((writes ≡ checkpointed minDel maxAge o .writes) × (s′ ≡ checkpointed minDel maxAge o .lent))
 unfolding checkpointed closed
 after-all minDel maxAge o s s′ reads writes a e = (omega (arith, a .read), (omega (arith, a .written), e ∙ ap (λ (x : Lent). closed x .lent) (a .state)))

@@ -16,7 +16,7 @@ use Rattle.record.proofs.Laws.{getD-part}
 use Rattle.rules.specs.Lent.{isDirty}
 use Rattle.rules.specs.Sound.{every, pairs, upTo, between, same, agree}
 use Rattle.rules.specs.Shape.{pageBelow}
-use Rattle.onlinecheck.specs.Online.{owned, inLog, otherNumber, entryAgrees}
+use Rattle.onlinecheck.specs.Online.{owningIn, inLog, otherNumber, entryAgrees}
 use Rattle.rules.proofs.Walks.{upTo-alike}
 use Rattle.table.specs.Marks.{markPages}
 use Rattle.table.proofs.Marks.{marked-page}
@@ -67,11 +67,11 @@ slots-of first last n k true y z u e p q h g =
     rw (b .0, lt-ltb (k - first) 2048 m) (or-true (eqb k 0))
 slots-of first last n k false y z u e p q h g = rw (and-both y (eqb k 0) (and-both (y && eqb k 0) z h .0) .1)
 
-pub slots : (tables log : List ℕ) (first last n : ℕ) → first ≡ last - n + 1 → n ≤ last → n ≤ 2048 → (l : List (List ℕ)) → every (owned tables last) l ≡ true → every (inLog log first) l ≡ true → every (slotted first) l ≡ true
-unfolding every owned inLog
+pub slots : (tables log : List ℕ) (first last n : ℕ) → first ≡ last - n + 1 → n ≤ last → n ≤ 2048 → (l : List (List ℕ)) → every (owningIn tables last) l ≡ true → every (inLog log first) l ≡ true → every (slotted first) l ≡ true
+unfolding every owningIn inLog
 slots tables log first last n e p q [] h g = refl
 slots tables log first last n e p q (r ∷ l) h g =
-    let a = and-both (owned tables last r) (every (owned tables last) l) h in
+    let a = and-both (owningIn tables last r) (every (owningIn tables last) l) h in
     let b = and-both (inLog log first r) (every (inLog log first) l) g in
     let f : slotted first r ≡ true = slots-of first last n (numberOf r) (committed r) (leb (ownerOf r) 32) (eqb (getD tables (2 + ownerOf r) 0) 1) (same (bodyOf r) (rowAt 14 log (numberOf r - first))) e p q (a .0) (b .0) in
     rw f (slots tables log first last n e p q l (a .1) (b .1))
@@ -181,10 +181,10 @@ unfolding unmarked withNumber
 take-one first a r k e h = (rw (← e, ne-eqb k 0 h), rw (← e, ne-eqb k 0 h))
 
 -- what the clauses of the rows by themselves give to the others
-pub rows-give : (tables log : List ℕ) (size pages last n : ℕ) (l : List (List ℕ)) (x z y : Bool) → n ≤ last → n ≤ 2048 → x ≡ (every (wellFormed size pages) l && every (owned tables last) l && z && every (inLog log (last - n + 1)) l && y) → not x ≡ false → (every (pageBelow pages) l ≡ true) × (every (slotted (last - n + 1)) l ≡ true)
+pub rows-give : (tables log : List ℕ) (size pages last n : ℕ) (l : List (List ℕ)) (x z y : Bool) → n ≤ last → n ≤ 2048 → x ≡ (every (wellFormed size pages) l && every (owningIn tables last) l && z && every (inLog log (last - n + 1)) l && y) → not x ≡ false → (every (pageBelow pages) l ≡ true) × (every (slotted (last - n + 1)) l ≡ true)
 rows-give tables log size pages last n l x z y p q e h =
     let f = every (wellFormed size pages) l in
-    let o = every (owned tables last) l in
+    let o = every (owningIn tables last) l in
     let g = every (inLog log (last - n + 1)) l in
     let a = and-both (f && o && z) g (and-both (f && o && z && g) y (so _ _ e h) .0) in
     let b = and-both f o (and-both (f && o) z (a .0) .0) in

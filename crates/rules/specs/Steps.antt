@@ -7,7 +7,7 @@ use lib.Dec.{eqb, leb}
 use Rattle.word.specs.Word.{num, put}
 use Rattle.record.specs.Part.{part, withPart}
 use Rattle.record.specs.Rows.{rows, table, consIf, keep, any}
-use Rattle.record.specs.Record.{pageOf, numberOf, committed, bodyOf, apply, applied, rowOf, entered, onPage, committedOn, ownedBy, gone, numberRows, lesser, smallest, greatest}
+use Rattle.record.specs.Record.{pageOf, numberOf, committed, bodyOf, apply, applied, rowOf, entered, onPage, committedOn, ownedBy, numberRows, lesser, smallest, greatest}
 use Rattle.order.specs.Order.{without, touched, frameFor}
 use Rattle.rules.specs.Lent.{Lent, lentOf, sizeOf, pagesOf, framesOf, roomOf, spanOf, lastOf, closedOf, loggedOf, stampAt, dirtyAt, stampOf, dirtyOf, firstOf, logOf, countOf, liveAt, orderOf, entryAt, entryOf, entriesOf, onlineOf, inFrame, frameOf, isDirty, cleanIn, dirtyIn, pageIn, withPage, withOrder, withEntries, withCount}
 
@@ -101,7 +101,7 @@ committing s x =
 
 -- "Abort deletes the owner's records, the others keeping their order. Each page that had one loses its frame; its entry becomes evicted if records remain, else absent. The transaction ends."
 abbrev pub others : Lent → ℕ → List (List ℕ)
-others s x = keep (λ (r : List ℕ). not (gone true x 0 r)) (onlineOf s)
+others s x = keep (λ (r : List ℕ). not (ownedBy x r)) (onlineOf s)
 
 -- the order without the frames of these rows' pages
 unfoldable pub framesFreed : ℕ → List ℕ → List (List ℕ) → List ℕ → List ℕ
@@ -152,7 +152,7 @@ unfoldable pub compactedOrder : Lent → ℕ → List ℕ
 compactedOrder s p = cond (fromFrame s p) (orderOf s) (freedOf (entryOf s p) (orderOf s))
 
 abbrev pub unfolded : Lent → ℕ → List (List ℕ)
-unfolded s p = keep (λ (r : List ℕ). not (gone false 0 p r)) (onlineOf s)
+unfolded s p = keep (λ (r : List ℕ). not (committedOn p r)) (onlineOf s)
 
 unfoldable pub compacted : Lent → ℕ → Left
 compacted s p =
