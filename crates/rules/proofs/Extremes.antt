@@ -210,12 +210,8 @@ smallest-one r l h = smallest-least (lesser 0 (numberOf r)) l h ∙ ap (λ (x : 
 
 -- of rows that pass one of two tests, the smallest is the smaller of the two
 pub smallest-split : (b d u : List ℕ → Bool) → ((r : List ℕ) → u r ≡ (b r || d r)) → (l : List (List ℕ)) → every hasNumber l ≡ true → smallest 0 (keep u l) ≡ least (smallest 0 (keep b l)) (smallest 0 (keep d l))
-unfolding keep every
-smallest-split b d u f [] h = sym (ap (λ (x : ℕ). least x (smallest 0 [])) smallest-nothing ∙ least-none-left (smallest 0 []))
-  where
-    least-none-left : (x : ℕ) → least 0 x ≡ x
-    unfolding least
-    least-none-left x = refl
+unfolding keep every least
+smallest-split b d u f [] h = sym (ap (λ (x : ℕ). least x (smallest 0 [])) smallest-nothing)
 smallest-split b d u f (r ∷ l) h =
     let e = and-both (hasNumber r) (every hasNumber l) h in
     ap (λ (t : Bool). smallest 0 (consIf t r (keep u l))) (f r) ∙ go (b r) (d r) (every-keep u hasNumber l (e .1)) (every-keep b hasNumber l (e .1)) (every-keep d hasNumber l (e .1)) (smallest-split b d u f l (e .1))
