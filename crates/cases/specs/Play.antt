@@ -13,7 +13,7 @@ use Rattle.rules.specs.Sound.{every, pairs, upTo, zeros, isPageSize, inRange, e
 use Rattle.rules.specs.Steps.{begun, placed, rebuilt, fetchedEntries, fetchedPool, readTables, readStep, readBytes, updateTables, updated, committing, framesFreed, judgedAnew, aborted, evicted, due, fromFrame, compactedPage, compactedEntry, compactedOrder, compacted, compactStep, lowered, droppedBy, closed, afterPages, checkpointed, entering, evictedAll, restarted, stamped, formatted}
 use Rattle.rules.specs.Calls.{Outcome, refuseIf, mayBegin, judgeBegin, beginCall, clashes, mayRead, judgeRead, readCall, mayUpdate, judgeUpdate, updateCall, mayCommit, judgeCommit, commitCall, mayAbort, judgeAbort, abortCall, mayEvict, judgeEvict, evictCall, mayCompact, judgeCompact, compactCall, judgeClose, closeCall, mayCheckpoint, judgeCheckpoint, checkpointCall, judgeRestart, restartCall, judgeFormat, formatCall}
 
--- a call, a power loss, or a look at something of the store. A read is lent a buffer of sevens, one longer than it asks for
+-- a call, a power loss, or a look at something of the store. A read is lent a buffer of 99s, which no case expects to be read, one longer than it asks for
 pub data Event : Type 0 where
   Begin Commit Abort Evict : ℕ → Event
   Read : ℕ → ℕ → ℕ → ℕ → Event
@@ -51,7 +51,7 @@ step s (Begin x) = after (beginCall s x)
 step s (Commit x) = after (commitCall s x)
 step s (Abort x) = after (abortCall s x)
 step s (Evict p) = after (evictCall s p)
-step s (Read x p o w) = after (readCall s (replicate (w + 1) 7) x p o w)
+step s (Read x p o w) = after (readCall s (replicate (w + 1) 99) x p o w)
 step s (Update x p o w k v) = after (updateCall s x p o w k v)
 step s (Compact p a b) = after (compactCall s p a b)
 step s (Checkpoint a b) = after (checkpointCall s a b)

@@ -46,21 +46,21 @@ p1-to-p12 =
     ∷ Update 1 5 16 1 0 7 gives (0 ∷ 0 ∷ 1 ∷ 0 ∷ 0 ∷ [])
     ∷ Stored 5 16 gives (0 ∷ [])
     -- P3
-    ∷ Read 2 5 16 1 gives (6 ∷ 0 ∷ 0 ∷ 0 ∷ 0 ∷ 7 ∷ 7 ∷ [])
-    ∷ Read 2 5 17 1 gives (0 ∷ 0 ∷ 0 ∷ 0 ∷ 0 ∷ 0 ∷ 7 ∷ [])
+    ∷ Read 2 5 16 1 gives (6 ∷ 0 ∷ 0 ∷ 0 ∷ 0 ∷ 99 ∷ 99 ∷ [])
+    ∷ Read 2 5 17 1 gives (0 ∷ 0 ∷ 0 ∷ 0 ∷ 0 ∷ 0 ∷ 99 ∷ [])
     -- P4
     ∷ Update 2 5 17 1 1 255 gives done
     ∷ Update 2 5 17 1 1 2 gives done
-    ∷ Read 2 5 17 1 gives (0 ∷ 0 ∷ 0 ∷ 0 ∷ 0 ∷ 1 ∷ 7 ∷ [])
+    ∷ Read 2 5 17 1 gives (0 ∷ 0 ∷ 0 ∷ 0 ∷ 0 ∷ 1 ∷ 99 ∷ [])
     -- P5
     ∷ Evict 5 gives done
-    ∷ Read 1 5 16 1 gives (0 ∷ 0 ∷ 1 ∷ 0 ∷ 0 ∷ 7 ∷ 7 ∷ [])
+    ∷ Read 1 5 16 1 gives (0 ∷ 0 ∷ 1 ∷ 0 ∷ 0 ∷ 7 ∷ 99 ∷ [])
     -- P6
     ∷ Commit 1 gives (0 ∷ 0 ∷ 0 ∷ 0 ∷ 1 ∷ [])
     ∷ Last gives (1 ∷ [])
     ∷ Begin 1 gives done
     ∷ Abort 1 gives done
-    ∷ Read 2 5 16 1 gives (0 ∷ 0 ∷ 0 ∷ 0 ∷ 0 ∷ 7 ∷ 7 ∷ [])
+    ∷ Read 2 5 16 1 gives (0 ∷ 0 ∷ 0 ∷ 0 ∷ 0 ∷ 7 ∷ 99 ∷ [])
     -- P7
     ∷ Compact 5 1 4294967295 gives (0 ∷ 0 ∷ 1 ∷ 1 ∷ 0 ∷ [])
     ∷ Stored 5 16 gives (7 ∷ [])
@@ -81,7 +81,7 @@ p1-to-p12 =
     ∷ Rows gives restarted-rows
     -- P10
     ∷ Begin 4 gives done
-    ∷ Read 4 5 16 2 gives (0 ∷ 0 ∷ 1 ∷ 0 ∷ 0 ∷ 7 ∷ 1 ∷ 7 ∷ [])
+    ∷ Read 4 5 16 2 gives (0 ∷ 0 ∷ 1 ∷ 0 ∷ 0 ∷ 7 ∷ 1 ∷ 99 ∷ [])
     -- P11
     ∷ Close gives (0 ∷ 0 ∷ 0 ∷ 0 ∷ 1 ∷ [])
     ∷ Closed gives (3 ∷ [])
