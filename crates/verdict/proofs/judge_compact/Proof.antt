@@ -2,8 +2,8 @@
 use borrow.Author.Tests.{not-false}
 use mathlib.Core.Path.{_≡_}
 use mathlib.Core.Bool.{false, not}
-use denote.Ref.{now}
-use Rattle.rules.specs.Lent.{Lent, lentOf}
+use Rattle.rules.specs.Lent.{Lent}
+use Rattle.rules.specs.Areas.{areas}
 use Rattle.rules.specs.Sound.{sound}
 use Rattle.rules.specs.Shape.{Shaped}
 use Rattle.rules.specs.Calls.{judgeCompact}
@@ -18,7 +18,7 @@ use Rattle.verdict.proofs.judge_compact.Tie as tie
 abbrev lent : tie.Else1 → Lent
 lent k =
     let a = k .before .before .before .before .before .before .before .before .before .args in
-    lentOf (now (a .fixed)) (now (a .marks)) (now (a .log)) (now (a .stored)) (now (a .tables)) (now (a .online)) (now (a .pool))
+    areas (a .fixed) (a .marks) (a .log) (a .stored) (a .tables) (a .online) (a .pool)
 
 -- past the check they are sound, and so have their shape
 past : (k : tie.Else1) → not (sound (lent k)) ≡ false

@@ -2,9 +2,9 @@
 use Prim.Native.Nat.{ℕ, _<_, _≤_}
 use mathlib.Core.Path.{_≡_, refl, subst₂}
 use mathlib.Core.Bool.{true, false, not}
-use denote.Ref.{now}
 use borrow.Author.Tests.{lt-ltb, le-ltb, not-false}
-use Rattle.rules.specs.Lent.{Lent, lentOf}
+use Rattle.rules.specs.Lent.{Lent}
+use Rattle.rules.specs.Areas.{areas}
 use Rattle.rules.specs.Sound.{soundDurable}
 use Rattle.rules.specs.Calls.{judgeRestart}
 use Rattle.rules.proofs.Verdicts.{refused, passed}
@@ -18,7 +18,7 @@ use Rattle.verdict.proofs.judge_restart.Tie as tie
 abbrev lent : tie.Else1 → Lent
 lent k =
     let a = k .before .before .before .before .before .before .before .before .before .args in
-    lentOf (now (a .fixed)) (now (a .marks)) (now (a .log)) (now (a .stored)) (now (a .tables)) (now (a .online)) (now (a .pool))
+    areas (a .fixed) (a .marks) (a .log) (a .stored) (a .tables) (a .online) (a .pool)
 
 -- past the check the durable part is sound
 past : (k : tie.Else1) → not (soundDurable (lent k)) ≡ false
