@@ -60,10 +60,6 @@ unfolding applied
 length-applied [] g = refl
 length-applied (r ∷ rs) g = length-applied rs (apply r g) ∙ length-apply r g
 
--- a length that was found to be k
-pub known-length : (l g : List ℕ) (offset w k kind v : ℕ) → w ≡ k → l ≡ change offset k kind v g → l ≡ change offset w kind v g
-known-length l g offset w k kind v e h = h ∙ ap (λ (x : ℕ). change offset x kind v g) (sym e)
-
 -- `has_room`: more bytes than a number has, bytes past the page's end, and neither
 pub room-wide : (n offset w : ℕ) → 8 < w → false ≡ (leb (offset + w) n && leb w 8)
 room-wide n offset w h = rw (lt-leb w 8 h) (sym (and-false (leb (offset + w) n)))

@@ -34,7 +34,7 @@ fn written(kind: u8, old: u64, v: u64) -> u64
 }
 
 // The page g with a change of w bytes at an offset; one that does not fit changes nothing.
-fn change_bytes(g: &mut [u8], offset: usize, w: usize, kind: u8, v: u64)
+pub fn write_change(g: &mut [u8], offset: usize, w: usize, kind: u8, v: u64)
     ensures { λ r. ⌜ now (g .exit) ≡ change offset w kind v (now (g .entry)) ⌝ }
 {
     if !has_room(g.len(), offset, w) {
@@ -42,19 +42,6 @@ fn change_bytes(g: &mut [u8], offset: usize, w: usize, kind: u8, v: u64)
     }
     let old = word::load(g, offset, w);
     word::store(g, offset, w, written(kind, old, v));
-}
-
-// The same, with each length of a record written out: of a length that it knows the compiler makes one load and one store.
-pub fn write_change(g: &mut [u8], offset: usize, w: usize, kind: u8, v: u64)
-    ensures { λ r. ⌜ now (g .exit) ≡ change offset w kind v (now (g .entry)) ⌝ }
-{
-    match w {
-        1 => change_bytes(g, offset, 1, kind, v),
-        2 => change_bytes(g, offset, 2, kind, v),
-        4 => change_bytes(g, offset, 4, kind, v),
-        8 => change_bytes(g, offset, 8, kind, v),
-        _ => change_bytes(g, offset, w, kind, v),
-    }
 }
 
 // The page g with the record of row i applied; rows have w bytes.

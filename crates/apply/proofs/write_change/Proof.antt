@@ -1,70 +1,45 @@
--- `apply::write_change` meets its contract: each arm is the change at the length that was matched.
+-- `apply::write_change` meets its contract: what is written differs from the change only above its w bytes.
 use borrow.Author.Needs.{needs}
-use Rattle.apply.proofs.Laws.{known-length}
+use borrow.Author.Tests.{not-true, not-false}
+use mathlib.Core.Path.{sym, _∙_}
+use Rattle.apply.proofs.Laws.{room-both, change-room, change-none}
 use Rattle.apply.proofs.write_change.Statement.{statement}
 use Rattle.apply.proofs.write_change.Tie as tie
 
-change-bytes-requires : tie.Need-change-bytes-requires
-change-bytes-requires c κs = search needs
+has-room-requires : tie.Need-has-room-requires
+has-room-requires c κs = search needs
 
-change-bytes-requires-2 : tie.Need-change-bytes-requires-2
-change-bytes-requires-2 c κs = search needs
+returns : tie.Need-returns
+returns c = change-none _ _ _ _ _ (sym (c .before .has-room .ensures) ∙ not-true _ (c .if1 .taken))
 
-change-bytes-requires-3 : tie.Need-change-bytes-requires-3
-change-bytes-requires-3 c κs = search needs
+load-requires : tie.Need-load-requires
+load-requires c κs = room-both _ _ _ (sym (c .before .before .has-room .ensures) ∙ not-false _ (c .before .if1 .left))
 
-change-bytes-requires-4 : tie.Need-change-bytes-requires-4
-change-bytes-requires-4 c κs = search needs
+written-requires : tie.Need-written-requires
+written-requires c κs = search needs
 
-change-bytes-requires-5 : tie.Need-change-bytes-requires-5
-change-bytes-requires-5 c κs = search needs
+store-requires : tie.Need-store-requires
+store-requires c κs = room-both _ _ _ (sym (c .before .before .before .before .before .has-room .ensures) ∙ not-false _ (c .before .before .before .before .if1 .left))
 
 same-length : tie.Need-same-length
 same-length c = search needs
 
-returns : tie.Need-returns
-returns c = known-length _ _ _ _ _ _ _ (c .before .before .before .before .match .keys1) (c .before .before .change-bytes .ensures)
-
-same-length-2 : tie.Need-same-length-2
-same-length-2 c = search needs
-
 returns-2 : tie.Need-returns-2
-returns-2 c = known-length _ _ _ _ _ _ _ (c .before .before .before .before .match .keys2) (c .before .before .change-bytes2 .ensures)
-
-same-length-3 : tie.Need-same-length-3
-same-length-3 c = search needs
-
-returns-3 : tie.Need-returns-3
-returns-3 c = known-length _ _ _ _ _ _ _ (c .before .before .before .before .match .keys3) (c .before .before .change-bytes3 .ensures)
-
-same-length-4 : tie.Need-same-length-4
-same-length-4 c = search needs
-
-returns-4 : tie.Need-returns-4
-returns-4 c = known-length _ _ _ _ _ _ _ (c .before .before .before .before .match .keys4) (c .before .before .change-bytes4 .ensures)
-
-same-length-5 : tie.Need-same-length-5
-same-length-5 c = search needs
-
-returns-5 : tie.Need-returns-5
-returns-5 c = search needs
+returns-2 c =
+    change-room _ _ _ _ _ _ _ _
+    (sym (c .before .before .before .before .before .before .before .before .has-room .ensures) ∙ not-false _ (c .before .before .before .before .before .before .before .if1 .left))
+    (c .before .before .before .before .before .load .ensures .0)
+    (c .before .before .before .written .ensures)
+    (c .before .before .store .ensures)
 
 pub write-change-spec : {M : Type 1} → statement M
 write-change-spec =
     tie.close
     (tie.spec
-    change-bytes-requires
-    change-bytes-requires-2
-    change-bytes-requires-3
-    change-bytes-requires-4
-    change-bytes-requires-5
-    same-length
+    has-room-requires
     returns
-    same-length-2
-    returns-2
-    same-length-3
-    returns-3
-    same-length-4
-    returns-4
-    same-length-5
-    returns-5)
+    load-requires
+    written-requires
+    store-requires
+    same-length
+    returns-2)
