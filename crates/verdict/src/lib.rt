@@ -183,11 +183,10 @@ pub fn judge_update(
     }
     let given = durable::params_of(fixed);
     let m = word::load(tables, 0, 2) as usize;
-    let room = given.room as usize;
     judge::may_update(
         given.size as usize,
         given.pages as usize,
-        room - m,
+        given.room as usize,
         tables,
         online,
         m,

@@ -8,7 +8,7 @@ use native.Mathlib.Omega.{arith}
 use Rattle.rules.specs.Calls.{judgeBegin, beginCall}
 use Rattle.rules.specs.Steps.{lostNow, begun}
 use Rattle.sound.proofs.Laws.{sound-shaped}
-use Rattle.ventarico.proofs.Went.{begin-went}
+use Rattle.rules.proofs.Went.{begin-went}
 use borrow.Author.Needs.{needs}
 use Rattle.ventarico.proofs.door.begin_call.ventarico_begin.Statement.{statement}
 use Rattle.ventarico.proofs.door.begin_call.ventarico_begin.Tie as tie

@@ -7,7 +7,7 @@ use mathlib.Core.Path.{_≡_, refl, sym, _∙_}
 use Rattle.rules.specs.Calls.{judgeCheckpoint, checkpointCall}
 use Rattle.rules.specs.Steps.{checkpointed}
 use Rattle.sound.proofs.Laws.{sound-shaped, sound-logged}
-use Rattle.ventarico.proofs.Went.{checkpoint-went}
+use Rattle.rules.proofs.Went.{checkpoint-went}
 use borrow.Author.Needs.{needs}
 use Rattle.ventarico.proofs.door.checkpoint_call.ventarico_checkpoint.Statement.{statement}
 use Rattle.ventarico.proofs.door.checkpoint_call.ventarico_checkpoint.Tie as tie

@@ -8,7 +8,7 @@ use mathlib.Core.Bool.{true}
 use Rattle.rules.specs.Calls.{judgeFormat, formatCall}
 use Rattle.rules.specs.Steps.{formatted}
 use Rattle.durable.proofs.Laws.{ranged, lengths-marks}
-use Rattle.ventarico.proofs.Went.{format-went}
+use Rattle.rules.proofs.Went.{format-went}
 use borrow.Author.Needs.{needs}
 use Rattle.ventarico.proofs.door.format_call.ventarico_format.Statement.{statement}
 use Rattle.ventarico.proofs.door.format_call.ventarico_format.Tie as tie
