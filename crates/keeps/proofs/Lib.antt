@@ -1,0 +1,4 @@
+-- Sound tables stay sound.
+pub mod Tests
+pub mod Clauses
+pub mod Fetching
