@@ -2,3 +2,4 @@
 pub mod Tests
 pub mod Clauses
 pub mod Fetching
+pub mod Begins
