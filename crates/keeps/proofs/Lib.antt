@@ -3,3 +3,4 @@ pub mod Tests
 pub mod Clauses
 pub mod Fetching
 pub mod Begins
+pub mod Sweeps

@@ -59,7 +59,7 @@ lowered-front pages (r ∷ rs) ms i h =
     lowered-front pages rs (cond (committed r) x ms) i h ∙ num-pick (committed r) x ms i (num-put-below 4 4 ms (dirtyAt pages (pageOf r)) v i k)
 
 -- a dirty number that is lowered leaves the length
-length-lowered : (pages : ℕ) (rs : List (List ℕ)) (ms : List ℕ) → length (lowered pages rs ms) ≡ length ms
+pub length-lowered : (pages : ℕ) (rs : List (List ℕ)) (ms : List ℕ) → length (lowered pages rs ms) ≡ length ms
 unfolding lowered
 length-lowered pages [] ms = refl
 length-lowered pages (r ∷ rs) ms =
