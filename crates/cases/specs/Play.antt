@@ -11,7 +11,7 @@ use Rattle.record.specs.Record.{numberOf, isLength, wellFormed, changed, change
 use Rattle.order.specs.Order.{named, without, touched, victim, frameFrom, frameFor}
 use Rattle.rules.specs.Sound.{every, pairs, upTo, zeros, isPageSize, inRange, exactLengths, s1-parameters, s2-lengths, s3-logged, s3-counts, s4-entries, serving, times, s5-frame-once, s6-order, s7-log-records, s7-online-records, owning, s8-owners, s9-number-once, same, s10-in-log, s11-above-stamp, s12-dirty, apart, s13-apart, s14-log-zero, s14-online-zero, s14-order-zero, s15-stamps, s16-logged, s17-s19-dirty, s18-first, s20-live, soundDurable, soundLost, sound}
 use Rattle.rules.specs.Steps.{begun, placed, rebuilt, fetchedEntries, fetchedPool, readTables, readStep, readBytes, updateTables, updated, committing, framesFreed, judgedAnew, aborted, evicted, due, fromFrame, compactedPage, compactedEntry, compactedOrder, compacted, compactStep, lowered, droppedBy, closed, afterPages, checkpointed, entering, evictedAll, restarted, stamped, formatted}
-use Rattle.rules.specs.Calls.{Outcome, refuseIf, mayBegin, judgeBegin, beginCall, clashes, mayRead, judgeRead, readCall, mayUpdate, judgeUpdate, updateCall, mayCommit, judgeCommit, commitCall, mayAbort, judgeAbort, abortCall, mayEvict, judgeEvict, evictCall, mayCompact, judgeCompact, compactCall, judgeClose, closeCall, mayCheckpoint, judgeCheckpoint, checkpointCall, judgeRestart, restartCall, judgeFormat, formatCall}
+use Rattle.rules.specs.Calls.{Outcome, refuseIf, verdictOf, beginRefusals, judgeBegin, beginCall, clashes, readRefusals, judgeRead, readCall, updateRefusals, judgeUpdate, updateCall, commitRefusals, judgeCommit, commitCall, abortRefusals, judgeAbort, abortCall, evictRefusals, judgeEvict, evictCall, compactRefusals, judgeCompact, compactCall, judgeClose, closeCall, checkpointRefusals, judgeCheckpoint, checkpointCall, judgeRestart, restartCall, judgeFormat, formatCall}
 
 -- a call, a power loss, or a look at something of the store. A read is lent a buffer of sevens, one longer than it asks for
 pub data Event : Type 0 where
@@ -73,6 +73,6 @@ step s (Entry p) = looked s (entryOf s p ∷ [])
 
 -- what each event shows, in turn
 unfoldable pub play : Lent → List Event → List (List ℕ)
-unfolding step refuseIf num put rows joined table keep any isLength wellFormed changed change apply applied rowOf numbered entered numberRows lesser smallest greatest shareByte named without touched victim frameFrom frameFor every pairs upTo zeros isPageSize inRange exactLengths s1-parameters s2-lengths s3-logged s3-counts s4-entries serving times s5-frame-once s6-order s7-log-records s7-online-records owning s8-owners s9-number-once same s10-in-log s11-above-stamp s12-dirty apart s13-apart s14-log-zero s14-online-zero s14-order-zero s15-stamps s16-logged s17-s19-dirty s18-first s20-live soundDurable soundLost sound begun placed rebuilt fetchedEntries fetchedPool readTables readStep readBytes updateTables updated committing framesFreed judgedAnew aborted evicted due fromFrame compactedPage compactedEntry compactedOrder compacted compactStep lowered droppedBy closed afterPages checkpointed entering evictedAll restarted stamped formatted judgeBegin beginCall clashes judgeRead readCall judgeUpdate updateCall judgeCommit commitCall judgeAbort abortCall judgeEvict evictCall judgeCompact compactCall judgeClose closeCall judgeCheckpoint checkpointCall judgeRestart restartCall judgeFormat formatCall mayBegin mayRead mayUpdate mayCommit mayAbort mayEvict mayCompact mayCheckpoint
+unfolding step refuseIf verdictOf num put rows joined table keep any isLength wellFormed changed change apply applied rowOf numbered entered numberRows lesser smallest greatest shareByte named without touched victim frameFrom frameFor every pairs upTo zeros isPageSize inRange exactLengths s1-parameters s2-lengths s3-logged s3-counts s4-entries serving times s5-frame-once s6-order s7-log-records s7-online-records owning s8-owners s9-number-once same s10-in-log s11-above-stamp s12-dirty apart s13-apart s14-log-zero s14-online-zero s14-order-zero s15-stamps s16-logged s17-s19-dirty s18-first s20-live soundDurable soundLost sound begun placed rebuilt fetchedEntries fetchedPool readTables readStep readBytes updateTables updated committing framesFreed judgedAnew aborted evicted due fromFrame compactedPage compactedEntry compactedOrder compacted compactStep lowered droppedBy closed afterPages checkpointed entering evictedAll restarted stamped formatted judgeBegin beginCall clashes judgeRead readCall judgeUpdate updateCall judgeCommit commitCall judgeAbort abortCall judgeEvict evictCall judgeCompact compactCall judgeClose closeCall judgeCheckpoint checkpointCall judgeRestart restartCall judgeFormat formatCall beginRefusals readRefusals updateRefusals commitRefusals abortRefusals evictRefusals compactRefusals checkpointRefusals
 play s [] = []
 play s (e ∷ es) = step s e .shown ∷ play (step s e .lent) es

@@ -10,6 +10,7 @@ ghost use Rattle.word.specs.Word.{num};
 ghost use Rattle.record.specs.Rows.{rowAt, rows};
 ghost use Rattle.record.specs.Record.{isLength, wellFormed};
 ghost use Rattle.rules.specs.Lent.{lentOf};
+ghost use Rattle.rules.specs.Areas.{before};
 ghost use Rattle.rules.specs.Sound.{every, upTo, zeros, isPageSize, inRange, exactLengths, soundDurable};
 ghost use Rattle.durable.specs.Limits.{placesOf, mostValues};
 ghost use Rattle.durable.specs.Marks.{isRecord, soundCounts, numberWithin, soundStamps, dirtyFrom, soundDirties, soundMarks};
@@ -285,7 +286,7 @@ pub fn sound_durable(
     online: &[u8],
     pool: &[u8],
 ) -> bool
-    ensures { λ r. ⌜ r ≡ soundDurable (lentOf (now (fixed .entry)) (now (marks .entry)) (now (log .entry)) (now (stored .entry)) (now (tables .entry)) (now (online .entry)) (now (pool .entry))) ⌝ }
+    ensures { λ r. ⌜ r ≡ soundDurable (before fixed marks log stored tables online pool) ⌝ }
 {
     if fixed.len() != 20 {
         return false;

@@ -3,7 +3,7 @@ ghost use mathlib.Core.Path.{_≡_};
 ghost use Prim.Native.Nat.{_+_, _*_, _≤_};
 ghost use lib.ListN.{length, replicate};
 ghost use Rattle.word.specs.Word.{put};
-ghost use Rattle.rules.specs.Lent.{lentOf};
+ghost use Rattle.rules.specs.Areas.{before, after};
 ghost use Rattle.rules.specs.Steps.{stamped, formatted};
 
 // Zeros, all of it.
@@ -69,7 +69,7 @@ pub fn format(
     last: u64,
 )
     requires { ⌜ (length (now fixed) ≡ 20) × (length (now marks) ≡ 12 + 8 * pages) × (pages ≤ 1024) ⌝ }
-    ensures { λ r. ⌜ lentOf (now (fixed .exit)) (now (marks .exit)) (now (log .exit)) (now (stored .entry)) (now (tables .exit)) (now (online .exit)) (now (pool .entry)) ≡ formatted (lentOf (now (fixed .entry)) (now (marks .entry)) (now (log .entry)) (now (stored .entry)) (now (tables .entry)) (now (online .entry)) (now (pool .entry))) size pages frames room span last .lent ⌝ }
+    ensures { λ r. ⌜ after fixed marks log stored tables online pool ≡ formatted (before fixed marks log stored tables online pool) size pages frames room span last .lent ⌝ }
 {
     write_fixed(fixed, size, pages, frames, room, span);
     write_marks(marks, pages, last);

@@ -2,13 +2,14 @@
 -- Each keeps house by itself: what it evicts, compacts and closes, and when, is its own.
 use Prim.Native.Nat.{ℕ, _+_, _≤_}
 use mathlib.Core.Path.{_≡_}
-use mathlib.Core.Bool.{Bool, true, false}
+use mathlib.Core.Bool.{Bool, true, false, _||_}
+use lib.Dec.{eqb}
 use Rattle.rules.specs.declared.Counts.{Counts}
 use Rattle.rules.specs.declared.Refusal.{Refusal}
-use Rattle.rules.specs.declared.Refusal.the-variants.{NotSound, Argument, ShortBuffer, NotLive, Live, Held, OnlineFull, LogFull, NumbersEnd, NoFrame}
 use Rattle.rules.specs.declared.Answer.{Answer}
 use Rattle.rules.specs.declared.Answer.the-variants.{Done, NotDue, Refused}
 use Rattle.rules.specs.declared.Verdict.the-variants.{Go}
+use Rattle.rules.specs.Answers.{codeOf}
 use Rattle.rules.specs.Lent.{Lent, Lost, pagesOf}
 use Rattle.rules.specs.Calls.{restartCall, formatCall, judgeCheckpoint}
 use Rattle.history.specs.Past.{Past, fresh, falls}
@@ -42,16 +43,7 @@ upkeep Restart = false
 
 -- refusals 7 and 8
 unfoldable pub isFull : Refusal → Bool
-isFull NotSound = false
-isFull (Argument b) = false
-isFull ShortBuffer = false
-isFull NotLive = false
-isFull Live = false
-isFull Held = false
-isFull OnlineFull = true
-isFull LogFull = true
-isFull NumbersEnd = false
-isFull NoFrame = false
+isFull r = eqb (codeOf r) 7 || eqb (codeOf r) 8
 
 unfoldable pub full : Answer → Bool
 full (Done counts) = false

@@ -1,5 +1,6 @@
 -- The laws that callers' proofs cite.
 pub mod Verdicts
+pub mod Went
 pub mod Clauses
 pub mod Every
 pub mod Tables

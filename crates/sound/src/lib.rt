@@ -7,7 +7,7 @@ ghost use lib.ListN.{length, getD};
 ghost use Rattle.word.specs.Word.{num};
 ghost use Rattle.pagetable.specs.Test.{tablesTest};
 ghost use Rattle.onlinecheck.specs.Online.{onlineTest};
-ghost use Rattle.rules.specs.Lent.{lentOf};
+ghost use Rattle.rules.specs.Areas.{areas, before};
 ghost use Rattle.rules.specs.Sound.{soundDurable, soundLost, sound};
 
 // The lost part, by the parameters that the durable part gave.
@@ -43,8 +43,8 @@ fn sound_lost(
     online: &[u8],
     pool: &[u8],
 ) -> bool
-    requires { ⌜ soundDurable (lentOf (now fixed) (now marks) (now log) (now stored) (now tables) (now online) (now pool)) ≡ true ⌝ }
-    ensures { λ r. ⌜ r ≡ soundLost (lentOf (now (fixed .entry)) (now (marks .entry)) (now (log .entry)) (now (stored .entry)) (now (tables .entry)) (now (online .entry)) (now (pool .entry))) ⌝ }
+    requires { ⌜ soundDurable (areas fixed marks log stored tables online pool) ≡ true ⌝ }
+    ensures { λ r. ⌜ r ≡ soundLost (before fixed marks log stored tables online pool) ⌝ }
 {
     let p = durable::params_of(fixed);
     lost_at(
@@ -69,7 +69,7 @@ pub fn is_sound(
     online: &[u8],
     pool: &[u8],
 ) -> bool
-    ensures { λ r. ⌜ r ≡ sound (lentOf (now (fixed .entry)) (now (marks .entry)) (now (log .entry)) (now (stored .entry)) (now (tables .entry)) (now (online .entry)) (now (pool .entry))) ⌝ }
+    ensures { λ r. ⌜ r ≡ sound (before fixed marks log stored tables online pool) ⌝ }
 {
     if !durable::sound_durable(fixed, marks, log, stored, tables, online, pool) {
         return false;

@@ -21,7 +21,7 @@ use Rattle.rules.specs.declared.Verdict.the-variants.{Go, Refuse}
 use Rattle.rules.specs.Lent.{Lent, pageIn}
 use Rattle.rules.specs.Steps.{begun, updated, committing, aborted, restarted}
 use Rattle.rules.specs.Calls.{Outcome, settled, doneWith, judgeBegin, beginCall, readCall, judgeUpdate, updateCall, judgeCommit, commitCall, judgeAbort, abortCall, judgeRestart, restartCall}
-use Rattle.ventarico.proofs.Went.{begin-went, abort-went, commit-went, update-went}
+use Rattle.rules.proofs.Went.{begin-went, abort-went, commit-went, update-went}
 use Rattle.redo.proofs.View.{keep-append}
 use Rattle.redo.proofs.Views.{keep-all}
 use Rattle.redo.proofs.Numbered.{row-owner}

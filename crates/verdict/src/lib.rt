@@ -6,7 +6,8 @@ ghost use Prim.Native.Nat.{_≤_};
 ghost use lib.ListN.{length, getD};
 ghost use lib.Dec.{eqb};
 ghost use Rattle.rules.specs.Sound.{inRange, exactLengths};
-ghost use Rattle.rules.specs.Lent.{lentOf, entryAt};
+ghost use Rattle.rules.specs.Lent.{entryAt};
+ghost use Rattle.rules.specs.Areas.{before};
 ghost use Rattle.rules.specs.Calls.{judgeBegin, judgeRead, judgeUpdate, judgeCommit, judgeAbort, judgeEvict, judgeCompact, judgeClose, judgeCheckpoint, judgeRestart, judgeFormat};
 use rules::Bad;
 use rules::Refusal;
@@ -22,7 +23,7 @@ pub fn judge_begin(
     pool: &[u8],
     x: u32,
 ) -> Verdict
-    ensures { λ r. ⌜ r ≡ judgeBegin (lentOf (now (fixed .entry)) (now (marks .entry)) (now (log .entry)) (now (stored .entry)) (now (tables .entry)) (now (online .entry)) (now (pool .entry))) x ⌝ }
+    ensures { λ r. ⌜ r ≡ judgeBegin (before fixed marks log stored tables online pool) x ⌝ }
 {
     if !sound::is_sound(fixed, marks, log, stored, tables, online, pool) {
         return Verdict::Refuse(Refusal::NotSound);
@@ -40,7 +41,7 @@ pub fn judge_abort(
     pool: &[u8],
     x: u32,
 ) -> Verdict
-    ensures { λ r. ⌜ r ≡ judgeAbort (lentOf (now (fixed .entry)) (now (marks .entry)) (now (log .entry)) (now (stored .entry)) (now (tables .entry)) (now (online .entry)) (now (pool .entry))) x ⌝ }
+    ensures { λ r. ⌜ r ≡ judgeAbort (before fixed marks log stored tables online pool) x ⌝ }
 {
     if !sound::is_sound(fixed, marks, log, stored, tables, online, pool) {
         return Verdict::Refuse(Refusal::NotSound);
@@ -57,7 +58,7 @@ pub fn judge_close(
     online: &[u8],
     pool: &[u8],
 ) -> Verdict
-    ensures { λ r. ⌜ r ≡ judgeClose (lentOf (now (fixed .entry)) (now (marks .entry)) (now (log .entry)) (now (stored .entry)) (now (tables .entry)) (now (online .entry)) (now (pool .entry))) ⌝ }
+    ensures { λ r. ⌜ r ≡ judgeClose (before fixed marks log stored tables online pool) ⌝ }
 {
     if !sound::is_sound(fixed, marks, log, stored, tables, online, pool) {
         return Verdict::Refuse(Refusal::NotSound);
@@ -76,7 +77,7 @@ pub fn judge_checkpoint(
     min_del: u32,
     max_age: u32,
 ) -> Verdict
-    ensures { λ r. ⌜ r ≡ judgeCheckpoint (lentOf (now (fixed .entry)) (now (marks .entry)) (now (log .entry)) (now (stored .entry)) (now (tables .entry)) (now (online .entry)) (now (pool .entry))) «min_del» «max_age» ⌝ }
+    ensures { λ r. ⌜ r ≡ judgeCheckpoint (before fixed marks log stored tables online pool) «min_del» «max_age» ⌝ }
 {
     if !sound::is_sound(fixed, marks, log, stored, tables, online, pool) {
         return Verdict::Refuse(Refusal::NotSound);
@@ -96,7 +97,7 @@ pub fn judge_compact(
     min_del: u32,
     max_age: u32,
 ) -> Verdict
-    ensures { λ r. ⌜ r ≡ judgeCompact (lentOf (now (fixed .entry)) (now (marks .entry)) (now (log .entry)) (now (stored .entry)) (now (tables .entry)) (now (online .entry)) (now (pool .entry))) p «min_del» «max_age» ⌝ }
+    ensures { λ r. ⌜ r ≡ judgeCompact (before fixed marks log stored tables online pool) p «min_del» «max_age» ⌝ }
 {
     if !sound::is_sound(fixed, marks, log, stored, tables, online, pool) {
         return Verdict::Refuse(Refusal::NotSound);
@@ -115,7 +116,7 @@ pub fn judge_evict(
     pool: &[u8],
     p: u32,
 ) -> Verdict
-    ensures { λ r. ⌜ r ≡ judgeEvict (lentOf (now (fixed .entry)) (now (marks .entry)) (now (log .entry)) (now (stored .entry)) (now (tables .entry)) (now (online .entry)) (now (pool .entry))) p ⌝ }
+    ensures { λ r. ⌜ r ≡ judgeEvict (before fixed marks log stored tables online pool) p ⌝ }
 {
     if !sound::is_sound(fixed, marks, log, stored, tables, online, pool) {
         return Verdict::Refuse(Refusal::NotSound);
@@ -139,7 +140,7 @@ pub fn judge_read(
     offset: u32,
     w: u32,
 ) -> Verdict
-    ensures { λ r. ⌜ r ≡ judgeRead (lentOf (now (fixed .entry)) (now (marks .entry)) (now (log .entry)) (now (stored .entry)) (now (tables .entry)) (now (online .entry)) (now (pool .entry))) room x p offset w ⌝ }
+    ensures { λ r. ⌜ r ≡ judgeRead (before fixed marks log stored tables online pool) room x p offset w ⌝ }
 {
     if !sound::is_sound(fixed, marks, log, stored, tables, online, pool) {
         return Verdict::Refuse(Refusal::NotSound);
@@ -175,18 +176,17 @@ pub fn judge_update(
     kind: u32,
     v: u64,
 ) -> Verdict
-    ensures { λ r. ⌜ r ≡ judgeUpdate (lentOf (now (fixed .entry)) (now (marks .entry)) (now (log .entry)) (now (stored .entry)) (now (tables .entry)) (now (online .entry)) (now (pool .entry))) x p offset w kind v ⌝ }
+    ensures { λ r. ⌜ r ≡ judgeUpdate (before fixed marks log stored tables online pool) x p offset w kind v ⌝ }
 {
     if !sound::is_sound(fixed, marks, log, stored, tables, online, pool) {
         return Verdict::Refuse(Refusal::NotSound);
     }
     let given = durable::params_of(fixed);
     let m = word::load(tables, 0, 2) as usize;
-    let room = given.room as usize;
     judge::may_update(
         given.size as usize,
         given.pages as usize,
-        room - m,
+        given.room as usize,
         tables,
         online,
         m,
@@ -209,7 +209,7 @@ pub fn judge_commit(
     pool: &[u8],
     x: u32,
 ) -> Verdict
-    ensures { λ r. ⌜ r ≡ judgeCommit (lentOf (now (fixed .entry)) (now (marks .entry)) (now (log .entry)) (now (stored .entry)) (now (tables .entry)) (now (online .entry)) (now (pool .entry))) x ⌝ }
+    ensures { λ r. ⌜ r ≡ judgeCommit (before fixed marks log stored tables online pool) x ⌝ }
 {
     if !sound::is_sound(fixed, marks, log, stored, tables, online, pool) {
         return Verdict::Refuse(Refusal::NotSound);
@@ -234,7 +234,7 @@ pub fn judge_restart(
     online: &[u8],
     pool: &[u8],
 ) -> Verdict
-    ensures { λ r. ⌜ r ≡ judgeRestart (lentOf (now (fixed .entry)) (now (marks .entry)) (now (log .entry)) (now (stored .entry)) (now (tables .entry)) (now (online .entry)) (now (pool .entry))) ⌝ }
+    ensures { λ r. ⌜ r ≡ judgeRestart (before fixed marks log stored tables online pool) ⌝ }
 {
     if !durable::sound_durable(fixed, marks, log, stored, tables, online, pool) {
         return Verdict::Refuse(Refusal::NotSound);
@@ -261,7 +261,7 @@ pub fn judge_format(
     room: u32,
     span: u32,
 ) -> Verdict
-    ensures { λ r. ⌜ r ≡ judgeFormat (lentOf (now (fixed .entry)) (now (marks .entry)) (now (log .entry)) (now (stored .entry)) (now (tables .entry)) (now (online .entry)) (now (pool .entry))) size pages frames room span ⌝ }
+    ensures { λ r. ⌜ r ≡ judgeFormat (before fixed marks log stored tables online pool) size pages frames room span ⌝ }
 {
     if !durable::in_range(
         size as u64,
@@ -319,7 +319,7 @@ fn lengths(
     span: u32,
 ) -> bool
     requires { ⌜ inRange size pages frames room span ≡ true ⌝ }
-    ensures { λ r. ⌜ r ≡ (eqb (length (now (fixed .entry))) 20 && exactLengths (lentOf (now (fixed .entry)) (now (marks .entry)) (now (log .entry)) (now (stored .entry)) (now (tables .entry)) (now (online .entry)) (now (pool .entry))) size pages frames room span) ⌝ }
+    ensures { λ r. ⌜ r ≡ (eqb (length (now (fixed .entry))) 20 && exactLengths (before fixed marks log stored tables online pool) size pages frames room span) ⌝ }
 {
     if fixed.len() != 20 {
         return false;

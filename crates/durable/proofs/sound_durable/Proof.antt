@@ -4,7 +4,7 @@ use borrow.Author.Needs.{needs}
 use native.Mathlib.Nat.{le-trans}
 use lib.Dec.{lit≤}
 use denote.Ref.{now}
-use Rattle.rules.specs.Lent.{lentOf}
+use Rattle.rules.specs.Areas.{areas}
 use Rattle.rules.specs.Sound.{inRange}
 use Rattle.durable.proofs.Laws.{ranged, lengths-marks, durable-fixed, durable-range, durable-lengths, durable-marks}
 use Rattle.durable.proofs.sound_durable.Statement.{statement}
@@ -13,7 +13,7 @@ use Rattle.durable.proofs.sound_durable.Tie as tie
 returns : tie.Need-returns
 returns c =
     let a = c .before .before .before .before .before .before .before .before .args in
-    let s = lentOf (now (a .fixed)) (now (a .marks)) (now (a .log)) (now (a .stored)) (now (a .tables)) (now (a .online)) (now (a .pool)) in
+    let s = areas (a .fixed) (a .marks) (a .log) (a .stored) (a .tables) (a .online) (a .pool) in
     durable-fixed s (c .if1 .taken)
 
 params-of-requires : tie.Need-params-of-requires
@@ -25,7 +25,7 @@ in-range-requires c κs = search needs
 returns-2 : tie.Need-returns-2
 returns-2 c =
     let a = c .before .before .before .before .before .before .before .before .before .before .before .args in
-    let s = lentOf (now (a .fixed)) (now (a .marks)) (now (a .log)) (now (a .stored)) (now (a .tables)) (now (a .online)) (now (a .pool)) in
+    let s = areas (a .fixed) (a .marks) (a .log) (a .stored) (a .tables) (a .online) (a .pool) in
     let p = c .before .before .params-of .result in
     durable-range s (p .size) (p .pages) (p .frames) (p .room) (p .span)
     (c .before .before .before .if1 .left) (c .before .before .params-of .ensures)
@@ -37,7 +37,7 @@ exact-lengths-requires c κs = so _ _ (c .before .in-range .ensures) (c .if2 .le
 returns-3 : tie.Need-returns-3
 returns-3 c =
     let a = c .before .before .before .before .before .before .before .before .before .before .before .before .before .args in
-    let s = lentOf (now (a .fixed)) (now (a .marks)) (now (a .log)) (now (a .stored)) (now (a .tables)) (now (a .online)) (now (a .pool)) in
+    let s = areas (a .fixed) (a .marks) (a .log) (a .stored) (a .tables) (a .online) (a .pool) in
     let p = c .before .before .before .before .params-of .result in
     durable-lengths s (p .size) (p .pages) (p .frames) (p .room) (p .span)
     (c .before .before .before .before .before .if1 .left) (c .before .before .before .before .params-of .ensures)
@@ -47,7 +47,7 @@ returns-3 c =
 sound-marks-requires : tie.Need-sound-marks-requires
 sound-marks-requires c κs =
     let a = c .before .before .before .before .before .before .before .before .before .before .before .before .before .args in
-    let s = lentOf (now (a .fixed)) (now (a .marks)) (now (a .log)) (now (a .stored)) (now (a .tables)) (now (a .online)) (now (a .pool)) in
+    let s = areas (a .fixed) (a .marks) (a .log) (a .stored) (a .tables) (a .online) (a .pool) in
     let p = c .before .before .before .before .params-of .result in
     let l = lengths-marks s (p .size) (p .pages) (p .frames) (p .room) (p .span) (c .before .exact-lengths .ensures (now (a .fixed))) (c .if3 .left) in
     let r = ranged (p .size) (p .pages) (p .frames) (p .room) (p .span) (so _ (inRange (p .size) (p .pages) (p .frames) (p .room) (p .span)) (c .before .before .before .in-range .ensures) (c .before .before .if2 .left)) in
@@ -56,7 +56,7 @@ sound-marks-requires c κs =
 returns-4 : tie.Need-returns-4
 returns-4 c =
     let a = c .before .before .before .before .before .before .before .before .before .before .before .before .before .before .args in
-    let s = lentOf (now (a .fixed)) (now (a .marks)) (now (a .log)) (now (a .stored)) (now (a .tables)) (now (a .online)) (now (a .pool)) in
+    let s = areas (a .fixed) (a .marks) (a .log) (a .stored) (a .tables) (a .online) (a .pool) in
     let p = c .before .before .before .before .before .params-of .result in
     durable-marks s (p .size) (p .pages) (p .frames) (p .room) (p .span)
     (c .before .before .before .before .before .before .if1 .left) (c .before .before .before .before .before .params-of .ensures)

@@ -1,5 +1,5 @@
 // Abort a transaction.
-ghost use Rattle.rules.specs.Lent.{lentOf};
+ghost use Rattle.rules.specs.Areas.{before, after};
 ghost use Rattle.rules.specs.Calls.{abortCall};
 ghost use Rattle.ventarico.specs.Said.{Told};
 ghost use mathlib.Core.Path.{_≡_};
@@ -27,8 +27,8 @@ pub extern "C" fn ventarico_abort(
     pool: &[u8],
     number: u32,
 ) -> Reply
-    ensures { λ r. ⌜ Told (abortCall (lentOf (now (fixed .entry)) (now (marks .entry)) (now (log .entry)) (now (stored .entry)) (now (tables .entry)) (now (online .entry)) (now (pool .entry))) number) r
-        (lentOf (now (fixed .entry)) (now (marks .entry)) (now (log .entry)) (now (stored .entry)) (now (tables .exit)) (now (online .exit)) (now (pool .entry))) ⌝ }
+    ensures { λ r. ⌜ Told (abortCall (before fixed marks log stored tables online pool) number) r
+        (after fixed marks log stored tables online pool) ⌝ }
 {
     let v = verdict::judge_abort(fixed, marks, log, stored, tables, online, pool, number);
     match v {

@@ -1,5 +1,5 @@
 // Format: a new store over the stored pages as they are.
-ghost use Rattle.rules.specs.Lent.{lentOf};
+ghost use Rattle.rules.specs.Areas.{before, after};
 ghost use Rattle.rules.specs.Calls.{formatCall};
 ghost use Rattle.ventarico.specs.Said.{Told};
 use rules::Reply;
@@ -21,8 +21,8 @@ pub extern "C" fn ventarico_format(
     span: u32,
     last: u32,
 ) -> Reply
-    ensures { λ r. ⌜ Told (formatCall (lentOf (now (fixed .entry)) (now (marks .entry)) (now (log .entry)) (now (stored .entry)) (now (tables .entry)) (now (online .entry)) (now (pool .entry))) size pages frames room span last) r
-        (lentOf (now (fixed .exit)) (now (marks .exit)) (now (log .exit)) (now (stored .entry)) (now (tables .exit)) (now (online .exit)) (now (pool .entry))) ⌝ }
+    ensures { λ r. ⌜ Told (formatCall (before fixed marks log stored tables online pool) size pages frames room span last) r
+        (after fixed marks log stored tables online pool) ⌝ }
 {
     let v = verdict::judge_format(
         fixed,

@@ -5,7 +5,7 @@ use denote.Ref.{now}
 use lib.ListN.{length}
 use lib.Dec.{eqb}
 use borrow.Author.Tests.{ne-eqb, eq-eqb}
-use Rattle.rules.specs.Lent.{lentOf}
+use Rattle.rules.specs.Areas.{areas}
 use Rattle.rules.specs.Sound.{exactLengths}
 use Rattle.sound.proofs.Laws.{and-kept}
 use borrow.Author.Needs.{needs}
@@ -16,7 +16,7 @@ use Rattle.verdict.proofs.lengths.Tie as tie
 abbrev exact : tie.Start → Bool
 exact s =
     let a = s .args in
-    exactLengths (lentOf (now (a .fixed)) (now (a .marks)) (now (a .log)) (now (a .stored)) (now (a .tables)) (now (a .online)) (now (a .pool)))
+    exactLengths (areas (a .fixed) (a .marks) (a .log) (a .stored) (a .tables) (a .online) (a .pool))
     (a .size) (a .pages) (a .frames) (a .room) (a .span)
 
 returns : tie.Need-returns

@@ -1,6 +1,6 @@
 -- `ventarico_format` keeps its promise: refused as `judgeFormat` says, else done as `formatted` says.
-use Rattle.rules.specs.Lent.{Lent, lentOf}
-use denote.Ref.{now}
+use Rattle.rules.specs.Lent.{Lent}
+use Rattle.rules.specs.Areas.{areas}
 use Rattle.rules.specs.declared.Verdict.{Verdict}
 use Rattle.rules.specs.declared.Verdict.the-variants.{Go, Refuse}
 use mathlib.Core.Path.{_≡_, refl, sym, _∙_}
@@ -8,7 +8,7 @@ use mathlib.Core.Bool.{true}
 use Rattle.rules.specs.Calls.{judgeFormat, formatCall}
 use Rattle.rules.specs.Steps.{formatted}
 use Rattle.durable.proofs.Laws.{ranged, lengths-marks}
-use Rattle.ventarico.proofs.Went.{format-went}
+use Rattle.rules.proofs.Went.{format-went}
 use borrow.Author.Needs.{needs}
 use Rattle.ventarico.proofs.door.format_call.ventarico_format.Statement.{statement}
 use Rattle.ventarico.proofs.door.format_call.ventarico_format.Tie as tie
@@ -21,7 +21,7 @@ start j = j .before .before .before .before .before .before .before .before .bef
 abbrev lent : tie.After-judge-format → Lent
 lent j =
     let a = start j .args in
-    lentOf (now (a .fixed)) (now (a .marks)) (now (a .log)) (now (a .stored)) (now (a .tables)) (now (a .online)) (now (a .pool))
+    areas (a .fixed) (a .marks) (a .log) (a .stored) (a .tables) (a .online) (a .pool)
 
 -- what the rules say there, and so the judge: a refusal, or go
 abbrev word : tie.After-judge-format → Verdict
