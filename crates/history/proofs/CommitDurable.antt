@@ -27,9 +27,9 @@ use Rattle.redo.proofs.Numbered.{numberedFrom-append, numberedFrom-length, numb
 use Rattle.redo.proofs.Reader.{every-both}
 use Rattle.readback.proofs.Marks.{marks-commit, last-commit, closed-commit, logged-commit, stamp-commit, dirty-commit}
 use Rattle.readback.proofs.Log.{log-commit, log-zero-commit, log-length-commit}
+use Rattle.keeps.proofs.Tests.{every-append}
 use Rattle.history.specs.Past.{Past}
 use Rattle.history.proofs.Right.{Ground, Right, DurableRight, rowsOf, openOf, aboveStamp}
-use Rattle.history.proofs.Tested.{every-append}
 use Rattle.history.proofs.Facts.{dirt-same, ranges, marks-long}
 
 -- of records numbered on from L: each number is above L

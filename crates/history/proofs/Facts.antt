@@ -22,8 +22,9 @@ use Rattle.durable.specs.Ranges.{Ranged}
 use Rattle.durable.proofs.Laws.{ranged}
 use Rattle.redo.proofs.Views.{rising}
 use Rattle.redo.proofs.Numbered.{numberedFrom-committed, numberedFrom-formed, numberedFrom-from, numberedFrom-rising}
+use Rattle.readback.proofs.Seen.{only}
 use Rattle.history.specs.Past.{Past}
-use Rattle.history.proofs.Right.{Ground, rowsOf, uncommitted, openOf, aboveStamp, only, openRow, PastRight, DurableRight, Right}
+use Rattle.history.proofs.Right.{Ground, rowsOf, uncommitted, openOf, aboveStamp, openRow, PastRight, DurableRight, Right}
 use Rattle.history.proofs.Tested.{online-all}
 
 -- what is said of an uncommitted record

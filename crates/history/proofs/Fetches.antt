@@ -3,13 +3,13 @@
 use Prim.Native.Nat.{ℕ, _+_, _*_, _≤_, _<_, _^_}
 use native.Mathlib.Omega.{arith}
 use mathlib.Core.Path.{_≡_, refl, sym, ap, _∙_, subst}
-use mathlib.Core.Bool.{Bool, true, false, cond, not, _&&_, _||_, or-true, or-false, or-assoc}
+use mathlib.Core.Bool.{Bool, true, false, cond, not, _||_, or-true}
 use mathlib.Core.List.{List, [], _∷_, _++_, append-nil, append-assoc}
 use lib.ListN.{length, getD, set}
-use lib.Dec.{eqb, ltb}
+use lib.Dec.{eqb}
 use borrow.Author.Tests.{eqb-true, eqb-false, eq-eqb, ne-eqb, lt-ltb, le-leb}
 use Rattle.record.specs.Rows.{keep, consIf, any}
-use Rattle.record.specs.Record.{pageOf, offsetOf, lengthOf, ownerOf, committed, isLength, wellFormed, apply, applied, rowOf, onPage, shareByte}
+use Rattle.record.specs.Record.{pageOf, offsetOf, lengthOf, ownerOf, committed, isLength, wellFormed, apply, applied, rowOf, onPage}
 use Rattle.record.proofs.Laws.{length-most}
 use Rattle.apply.proofs.Laws.{length-apply}
 use Rattle.order.specs.Order.{touched, frameFor}
@@ -29,6 +29,7 @@ use Rattle.seats.proofs.Places.{dirty-frame, dirty-dirty, placed-length, placed
 use Rattle.readback.proofs.Seen.{livesOf}
 use Rattle.readback.proofs.Pages.{page-length, page-same, page-other}
 use Rattle.readback.proofs.Lost.{entry-whole, length-rebuilt, length-fetched-pool, reads-read, reads-updated}
+use Rattle.keeps.proofs.Tests.{any-last, apart-row}
 use Rattle.history.specs.Past.{Past, updates}
 use Rattle.history.proofs.Right.{Ground, LostRight, Right, aboveStamp, rowsOf, openOf, openRow}
 use Rattle.history.proofs.Settle.{settle}
@@ -173,12 +174,6 @@ module _ {g : Ground} {done : List (List ℕ)} {h : Past} {s : Lent} (p : ℕ) (
   unfolding readStep
   keeps-read = settle (reads-read s p (r .whole) order-fits below rebuilt-length) (r .past) (r .durable) (fetched-right .0)
 
--- one more row
-any-last : (b : List ℕ → Bool) (l : List (List ℕ)) (r : List ℕ) → any b (l ++ (r ∷ [])) ≡ (any b l || b r)
-unfolding any
-any-last b [] r = or-false (b r)
-any-last b (x ∷ l) r = ap (λ (t : Bool). b x || t) (any-last b l r) ∙ sym (or-assoc (b x) (any b l) (b r))
-
 -- update of page p in its frame f: "applies, appends the record with its owner, and marks the page dirty"
 module _ {g : Ground} {done opened : List (List ℕ)} {live : ℕ → Bool} {frames : ℕ} {marks stored pool order lives entries : List ℕ} {online : List (List ℕ)} (l : LostRight g done opened live frames marks stored pool order lives entries online) (p f : ℕ) (m : p < g .pages) (i : inFrame (getD entries p 0) ≡ true) (at : frameOf (getD entries p 0) ≡ f) (long : length pool ≡ g .size * frames) (r : List ℕ) (on : pageOf r ≡ p) where
   -- the row is one of page p and of no other
@@ -258,18 +253,6 @@ update-right {g} {done} {h} {s} r m long c o a room w =
         lost-update (fetched-right p m w .0) p f (there p m w) (fetched-right p m w .1) (fetched-right p m w .2) e r refl
 
 -- refusal 6 did not come: the row is apart from each open one
-apart-row : (x p offset w : ℕ) (r : List ℕ) → pageOf r ≡ p → offsetOf r ≡ offset → lengthOf r ≡ w → ownerOf r ≡ x → (a : List ℕ) → not (clashes x p offset w a) ≡ true → apart a r ≡ true
-unfolding clashes apart shareByte
-apart-row x p offset w r e₁ e₂ e₃ e₄ a h =
-    rw (e₁, e₂, e₃) (ap (λ (y : ℕ). committed a || eqb y 0 || eqb (ownerOf a) y || not (eqb (pageOf a) p && ltb (offsetOf a) (offset + w) && ltb offset (offsetOf a + lengthOf a))) e₄
-    ∙ go (committed a) (eqb x 0) (eqb (ownerOf a) x) (eqb (pageOf a) p) (ltb (offsetOf a) (offset + w)) (ltb offset (offsetOf a + lengthOf a)) h)
-  where
-    go : (c d o y z u : Bool) → not (not c && not o && y && z && u) ≡ true → (c || d || o || not (y && z && u)) ≡ true
-    go true d o y z u k = refl
-    go false true o y z u k = refl
-    go false false true y z u k = refl
-    go false false false y z u k = k
-
 apart-open : {g : Ground} {done : List (List ℕ)} {h : Past} {s : Lent} (x p offset w : ℕ) (r : List ℕ) → pageOf r ≡ p → offsetOf r ≡ offset → lengthOf r ≡ w → ownerOf r ≡ x → held (onlineOf s) x p offset w ≡ false → Right g done h s → every (λ (a : List ℕ). apart a r) (openOf h) ≡ true
 apart-open {g} {done} {h} {s} x p offset w r e₁ e₂ e₃ e₄ k t =
     let all : any (clashes x p offset w) (keep (aboveStamp (s .durable .marks)) (rowsOf g done) ++ openOf h) ≡ false = sym (≅-any (clashes x p offset w) (t .lost .online-is)) ∙ k in

@@ -20,9 +20,9 @@ use Rattle.redo.proofs.Views.{keep-swap, keep-all}
 use Rattle.redo.proofs.Loose.{_≅_, still, then, numberedFrom, ≅-sym, ≅-equal, ≅-before, ≅-keep, ≅-wide, ≅-number, owned-open}
 use Rattle.redo.proofs.Numbered.{body-formed, keep-open-none, keep-others-all, numberedFrom-append, numberedFrom-wide}
 use Rattle.redo.proofs.Commits.{commit-loose, commit-open}
+use Rattle.keeps.proofs.Tests.{every-append, pairs-keep}
 use Rattle.history.specs.Past.{Past, fresh, begins, updates, commits, aborts, falls, rises}
 use Rattle.history.proofs.Right.{Ground, PastRight, rowsOf, uncommitted, openOf, openRow}
-use Rattle.history.proofs.Tested.{every-append, pairs-keep}
 use Rattle.history.proofs.Facts.{open-facts, done-committed, open-unset}
 
 -- tests of a list with one more

@@ -15,7 +15,7 @@ use Rattle.rules.specs.Lent.{Lent, Durable, sizeOf, pagesOf, framesOf, roomOf, 
 use Rattle.rules.specs.Sound.{every, pairs, zeros, between, inRange, apart}
 use Rattle.redo.proofs.Loose.{_≅_, numberedFrom}
 use Rattle.seats.proofs.Seated.{Seated}
-use Rattle.readback.proofs.Seen.{Areas, Whole, livesOf}
+use Rattle.readback.proofs.Seen.{only, Areas, Whole, livesOf}
 use Rattle.history.specs.Past.{Past}
 
 -- what format fixed: page size, pages, starting pages, and the number before the first commit's
@@ -39,10 +39,6 @@ openOf h = keep uncommitted (h .made)
 -- numbered above its page's stamp, so not in the stored page
 abbrev pub aboveStamp : List ℕ → List ℕ → Bool
 aboveStamp marks r = ltb (num 4 marks (stampAt (pageOf r))) (numberOf r)
-
--- the durable part alone, as lent bytes
-abbrev pub only : Durable → Lent
-only d = record { durable = d; lost = record { tables = []; online = []; pool = [] } }
 
 -- an uncommitted update: whose it is, and that it is well formed
 unfoldable pub openRow : Ground → (ℕ → Bool) → List ℕ → Bool

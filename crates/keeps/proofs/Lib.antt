@@ -1,0 +1,6 @@
+-- Sound tables stay sound.
+pub mod Tests
+pub mod Clauses
+pub mod Fetching
+pub mod Begins
+pub mod Sweeps
