@@ -4,7 +4,7 @@ use mathlib.Core.Path.{_≡_, refl}
 use mathlib.Core.List.{List, [], _∷_, map}
 use lib.ListN.{replicate}
 use Rattle.rules.specs.Lent.{Lent, lentOf}
-use Rattle.cases.specs.Play.{Event, play}
+use Rattle.cases.specs.Play.{Act, play}
 use Rattle.cases.specs.Play.Event.{Begin, Commit, Abort, Evict, Read, Update, Checkpoint, Restart, Loss, Format, Stored, Last, Closed, Logged, Online, Order, Stamp, Entry}
 use Rattle.cases.specs.Small.{Case, _gives_, done, blank}
 

@@ -5,7 +5,7 @@ use mathlib.Core.Path.{_≡_, refl}
 use mathlib.Core.List.{List, [], _∷_, _++_, map}
 use lib.ListN.{replicate}
 use Rattle.rules.specs.Lent.{Lent, lentOf}
-use Rattle.cases.specs.Play.{Event, play}
+use Rattle.cases.specs.Play.{Act, play}
 use Rattle.cases.specs.Play.Event.{Begin, Commit, Abort, Evict, Read, Update, Compact, Close, Restart, Loss, Format, Stored, Last, Closed, Logged, Online, Tables, Rows, Stamp, Dirty, Entry}
 
 -- seven areas of the right lengths for the small store; format is the first call
@@ -14,11 +14,11 @@ blank = lentOf (replicate 20 0) (replicate 76 0) (replicate 112 0) (replicate 40
 
 -- an event, and what it must show: for a call code, note, page reads, page writes, log writes, then the bytes read
 pub record Case : Type 0 where
-  pub event : Event
+  pub event : Act
   pub shows : List ℕ
 
 infix 90 _gives_
-abbrev pub _gives_ : Event → List ℕ → Case
+abbrev pub _gives_ : Act → List ℕ → Case
 e gives l = record { event = e; shows = l }
 
 unfoldable pub done : List ℕ

@@ -1,4 +1,4 @@
--- Laws of the turns of the checking loops, of tests joined in a row, of the ranges and the lengths, and what the durable part's soundness gives.
+-- Laws of the turns of the checking loops, of the ranges and the lengths, and what the durable part's soundness gives.
 use Prim.Native.Nat.{ℕ, zero, suc, _+_, _*_, _-_, _%_, _^_, _≤_, _<_}
 use native.Mathlib.Omega.{arith}
 use native.Mathlib.Numerals.{add-one}
@@ -10,7 +10,7 @@ use lib.ListN.{length, getD, take, drop, length-drop, drop-of-length-le}
 use lib.Seq.{drop-cons, take-all}
 use lib.Dec.{eqb, leb, ltb, leb·suc-suc}
 use borrow.Author.Tests.{eqb-true, eqb-false, leb-true, eq-eqb, ne-eqb, le-leb, lt-leb, lt-ltb, le-ltb, ltb-true, ltb-false}
-use Rattle.word.proofs.Tests.{and-both, among-four, so, not-so}
+use Rattle.word.proofs.Tests.{and-both, and-three, and-five, and-six, and-nine, among-four, so, not-so}
 use Rattle.record.specs.Rows.{rowAt, rows}
 use Rattle.record.proofs.Laws.{at-length}
 use Rattle.record.specs.Record.{pageOf, offsetOf, lengthOf, kindOf, valueOf, isLength, wellFormed}
@@ -18,74 +18,10 @@ use Rattle.word.specs.Word.{num}
 use Rattle.rules.specs.Lent.{Lent, sizeOf, pagesOf, framesOf, roomOf, spanOf, lastOf, loggedOf, logOf, dirtyAt}
 use Rattle.rules.specs.Sound.{every, upTo, zeros, between, isPageSize, inRange, exactLengths, s1-parameters, s2-lengths, s3-logged, s16-logged, s18-first, s15-stamps, s17-s19-dirty, s7-log-records, s14-log-zero, soundDurable}
 use Rattle.rules.specs.Shape.{Sized}
-use Rattle.rules.proofs.Clauses.{upTo-same, upTo-both}
+use Rattle.rules.proofs.Walks.{upTo-alike, upTo-both}
 use Rattle.durable.specs.Limits.{placesOf, mostValues}
 use Rattle.durable.specs.Marks.{isRecord, soundCounts, numberWithin, soundStamps, soundDirty, dirtyFrom, dirtyWithin, soundDirties, soundMarks}
 use Rattle.durable.specs.Ranges.{Ranged}
-
--- tests in a row
-and-three : (a b c : Bool) → (a && b && c) ≡ true → (a ≡ true) × (b ≡ true) × (c ≡ true)
-and-three a b c h =
-    let x = and-both (a && b) c h in
-    let y = and-both a b (x .0) in
-    (y .0, y .1, x .1)
-
-and-five : (a b c d e : Bool) → (a && b && c && d && e) ≡ true → (a ≡ true) × (b ≡ true) × (c ≡ true) × (d ≡ true) × (e ≡ true)
-and-five a b c d e h =
-    let x = and-three (a && b && c) d e h in
-    let y = and-three a b c (x .0) in
-    (y .0, y .1, y .2, x .1, x .2)
-
-and-six : (a b c d e f : Bool) → (a && b && c && d && e && f) ≡ true → (a ≡ true) × (b ≡ true) × (c ≡ true) × (d ≡ true) × (e ≡ true) × (f ≡ true)
-and-six a b c d e f h =
-    let x = and-both (a && b && c && d && e) f h in
-    let y = and-five a b c d e (x .0) in
-    (y .0, y .1, y .2, y .3, y .4, x .1)
-
-and-nine : (a b c d e f g h i : Bool) → (a && b && c && d && e && f && g && h && i) ≡ true → (a ≡ true) × (b ≡ true) × (c ≡ true) × (d ≡ true) × (e ≡ true) × (f ≡ true) × (g ≡ true) × (h ≡ true) × (i ≡ true)
-and-nine a b c d e f g h i k =
-    let x = and-five (a && b && c && d && e) f g h i k in
-    let y = and-five a b c d e (x .0) in
-    (y .0, y .1, y .2, y .3, y .4, x .1, x .2, x .3, x .4)
-
--- a loop over n numbers that joins what each test found: none looked at yet, a turn and the end
-pub upTo-none : (b : ℕ → Bool) (n : ℕ) → upTo b (n - 0) 0 ≡ upTo b n 0
-upTo-none b n = let e : n - 0 ≡ n = omega arith in rw e
-
-pub upTo-turn : (b : ℕ → Bool) (n i : ℕ) (ok r x : Bool) → i < n → r ≡ b i → (ok && upTo b (n - i) i) ≡ x → (ok && r && upTo b (n - (i + 1)) (i + 1)) ≡ x
-unfolding upTo
-upTo-turn b n i ok r x p h inv =
-    let e : n - i ≡ suc (n - (i + 1)) = omega arith in
-    rw h (and-assoc ok (b i) (upTo b (n - (i + 1)) (i + 1)) ∙ (rw e at inv))
-
-pub upTo-done : (b : ℕ → Bool) (n i : ℕ) (ok x : Bool) → n ≤ i → (ok && upTo b (n - i) i) ≡ x → ok ≡ x
-unfolding upTo
-upTo-done b n i ok x p inv =
-    let e : n - i ≡ 0 = omega arith in
-    sym (and-true ok) ∙ (rw e at inv)
-
--- a loop over n rows of a table that stops at the first that fails
-module _ (b : List ℕ → Bool) (w : ℕ) (t : List ℕ) (n : ℕ) where
-  pub rows-none : every b (rows w (n - 0) t 0) ≡ every b (rows w n t 0)
-  rows-none = let e : n - 0 ≡ n = omega arith in rw e
-
-  pub rows-turn : (i : ℕ) (x : Bool) {r : Bool} → i < n → r ≡ b (rowAt w t i) → not r ≡ false → every b (rows w (n - i) t i) ≡ x → every b (rows w (n - (i + 1)) t (i + 1)) ≡ x
-  unfolding rows every
-  rows-turn i x p f g inv =
-      let e : n - i ≡ suc (n - (i + 1)) = omega arith in
-      rw (e, so _ _ f g) at inv
-
-  pub rows-stop : (i : ℕ) (x : Bool) {r : Bool} → i < n → r ≡ b (rowAt w t i) → not r ≡ true → every b (rows w (n - i) t i) ≡ x → false ≡ x
-  unfolding rows every
-  rows-stop i x p f g inv =
-      let e : n - i ≡ suc (n - (i + 1)) = omega arith in
-      rw (e, not-so _ _ f g) at inv
-
-  pub rows-done : (i : ℕ) (x : Bool) → n ≤ i → every b (rows w (n - i) t i) ≡ x → true ≡ x
-  unfolding rows every
-  rows-done i x p inv =
-      let e : n - i ≡ 0 = omega arith in
-      rw e at inv
 
 -- a loop that keeps the greatest of bytes that are to be zero: a turn, where the byte is greater and where it is not, and the end
 pub most-new : (a b m : ℕ) → m ≡ b → a < b → eqb m 0 ≡ (eqb a 0 && eqb b 0)
@@ -225,7 +161,7 @@ dirty-parts first closed d = pick (eqb d 0) refl
 pub dirty-found : (marks : List ℕ) (pages first closed : ℕ) (a b : Bool) → a ≡ upTo (numberWithin marks (12 + 4 * pages) closed) pages 0 → b ≡ upTo (dirtyFrom marks pages first) pages 0 → (a && b) ≡ soundDirties marks pages first closed
 dirty-found marks pages first closed a b e f =
     rw (e, f) (sym (
-    upTo-same (dirtyWithin marks pages first closed) (λ (p : ℕ). numberWithin marks (12 + 4 * pages) closed p && dirtyFrom marks pages first p) (λ p. dirty-parts first closed (num 4 marks (dirtyAt pages p))) pages 0
+    upTo-alike (dirtyWithin marks pages first closed) (λ (p : ℕ). numberWithin marks (12 + 4 * pages) closed p && dirtyFrom marks pages first p) pages 0 (λ p _ _. dirty-parts first closed (num 4 marks (dirtyAt pages p)))
     ∙ upTo-both (numberWithin marks (12 + 4 * pages) closed) (dirtyFrom marks pages first) pages 0
     ))
 

@@ -13,13 +13,12 @@ use Rattle.word.specs.Word.{num}
 use Rattle.word.proofs.Tests.{and-both}
 use Rattle.record.specs.Rows.{keep}
 use Rattle.record.specs.Record.{pageOf, numberOf, bodyOf, applied, onPage, ownedBy, wellFormed}
-use Rattle.table.proofs.Laws.{Wide, wide-keep, wide-bodies}
+use Rattle.record.proofs.Rows.{Wide, wide-keep, wide-bodies}
 use Rattle.rules.specs.Lent.{Lent, roomOf, spanOf, lastOf, closedOf, loggedOf, firstOf, stampAt, dirtyOf, logOf, onlineOf, pageIn}
 use Rattle.rules.specs.Steps.{owned, committing}
 use Rattle.rules.specs.Sound.{every}
-use Rattle.rules.proofs.Every.{or-right}
-use Rattle.onlinecheck.proofs.Rows.{every-imp}
-use Rattle.onlinecheck.proofs.Laws.{formed-page}
+use Rattle.rules.proofs.Every.{or-right, every-imp}
+use Rattle.rules.proofs.Clauses.{formed-page}
 use Rattle.redo.proofs.View.{keep-append}
 use Rattle.redo.proofs.Views.{keep-same, keep-all, keep-none}
 use Rattle.redo.proofs.Loose.{numberedFrom, ≅-length}

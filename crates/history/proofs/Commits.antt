@@ -10,7 +10,7 @@ use lib.Dec.{eqb}
 use Rattle.record.specs.Rows.{keep, any}
 use Rattle.record.specs.Record.{committed, bodyOf, onPage, ownedBy, numberRows, wellFormed}
 use Rattle.rules.proofs.Every.{every-keep}
-use Rattle.table.proofs.Laws.{Wide, keep-length}
+use Rattle.record.proofs.Rows.{Wide, keep-length}
 use Rattle.rules.specs.Lent.{Lent, framesOf, spanOf, lastOf, loggedOf, orderOf, entriesOf, onlineOf}
 use Rattle.rules.specs.Steps.{owned, committing}
 use Rattle.rules.specs.Sound.{every, pairs, apart}

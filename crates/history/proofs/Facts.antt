@@ -13,11 +13,10 @@ use Rattle.word.proofs.Tests.{and-both}
 use Rattle.record.specs.Record.{ownerOf, numberOf, committed, wellFormed}
 use Rattle.rules.specs.Lent.{Lent, Durable, sizeOf, pagesOf, framesOf, roomOf, spanOf, lastOf, loggedOf, onlineOf}
 use Rattle.rules.specs.Sound.{every, pairs, between}
-use Rattle.rules.proofs.Every.{or-right, every-kept}
+use Rattle.rules.proofs.Every.{or-right, every-kept, every-imp}
 use Rattle.rules.proofs.Extremes.{numberAtMost}
-use Rattle.onlinecheck.specs.Online.{pageBelow}
-use Rattle.onlinecheck.proofs.Rows.{every-imp}
-use Rattle.onlinecheck.proofs.Laws.{formed-page}
+use Rattle.rules.specs.Shape.{pageBelow}
+use Rattle.rules.proofs.Clauses.{formed-page}
 use Rattle.durable.specs.Ranges.{Ranged}
 use Rattle.durable.proofs.Laws.{ranged}
 use Rattle.redo.proofs.Views.{rising}

@@ -11,10 +11,9 @@ use lib.Dec.{eqb}
 use Rattle.word.proofs.Tests.{and-both}
 use Rattle.record.specs.Rows.{keep, consIf}
 use Rattle.record.specs.Record.{ownerOf, numberOf, committed, ownedBy, bodyOf, wellFormed}
-use Rattle.table.proofs.Laws.{Wide, none, one, wide-keep, wide-append, wide-bodies}
+use Rattle.record.proofs.Rows.{Wide, none, one, wide-keep, wide-append, wide-bodies}
 use Rattle.rules.specs.Sound.{every, pairs, between, apart}
-use Rattle.rules.proofs.Every.{every-kept, keep-within, every-kept-where}
-use Rattle.onlinecheck.proofs.Rows.{every-imp}
+use Rattle.rules.proofs.Every.{every-kept, keep-within, every-kept-where, every-imp}
 use Rattle.redo.proofs.View.{SameBody, keep-append}
 use Rattle.redo.proofs.Views.{keep-swap, keep-all}
 use Rattle.redo.proofs.Loose.{_≅_, still, then, numberedFrom, ≅-sym, ≅-equal, ≅-before, ≅-keep, ≅-wide, ≅-number, owned-open}

@@ -10,7 +10,7 @@ use lib.Dec.{eqb, leb, ltb}
 use Rattle.word.specs.Word.{num}
 use Rattle.record.specs.Rows.{keep, any}
 use Rattle.record.specs.Record.{pageOf, ownerOf, numberOf, committed, applied, onPage, wellFormed}
-use Rattle.table.proofs.Laws.{Wide}
+use Rattle.record.proofs.Rows.{Wide}
 use Rattle.rules.specs.Lent.{Lent, Durable, sizeOf, pagesOf, framesOf, roomOf, spanOf, lastOf, closedOf, loggedOf, firstOf, stampAt, stampOf, dirtyOf, logOf, orderOf, entriesOf, onlineOf, inFrame, frameOf, isDirty, pageIn}
 use Rattle.rules.specs.Sound.{every, pairs, zeros, between, inRange, apart}
 use Rattle.redo.proofs.Loose.{_≅_, numberedFrom}

@@ -8,6 +8,7 @@ use mathlib.Core.List.{List, [], _∷_, _++_}
 use lib.ListN.{length, take, drop}
 use lib.Dec.{ltb}
 use borrow.Author.Tests.{not-false, le-ltb}
+use Rattle.record.specs.Record.{rowOf}
 use Rattle.rules.specs.declared.Refusal.{Refusal}
 use Rattle.rules.specs.declared.Refusal.the-variants.{NotSound, NotLive, Live, Held, OnlineFull, LogFull, NumbersEnd}
 use Rattle.rules.specs.declared.Verdict.{Verdict}
@@ -20,7 +21,7 @@ use Rattle.history.specs.Past.{Past}
 use Rattle.history.specs.Saying.{ownedIn, sayBegin, sayRead, sayUpdate, sayCommit, sayAbort}
 use Rattle.history.proofs.Right.{Ground, Right}
 use Rattle.history.proofs.Soundly.{right-sound}
-use Rattle.history.proofs.Known.{size-read, pages-read, last-read, live-read, held-read, owned-read}
+use Rattle.history.proofs.Known.{size-read, pages-read, last-read, live-read, read-held, update-held, owned-read}
 
 -- the same verdict, unless it is this refusal
 abbrev pub Unless : Refusal → Verdict → Verdict → Type 0
@@ -71,7 +72,7 @@ module _ (g : Ground) (done : List (List ℕ)) (h : Past) (s : Lent) (c : Right 
         judged (reads (sizeOf s) (pagesOf s) (isLive (s .lost .tables)) (onlineOf s))
         ∙ (λ i. verdictOf (reads (size-read g done h s c i) (pages-read g done h s c i) (isLive (s .lost .tables)) (onlineOf s)))
         ∙ past-all _≡_ (λ v. refl) (take 5 l) (drop 5 l) (drop 5 (reads (h .size) (h .pages) (h .live) (h .made)))
-        (λ f i. verdictOf (NotLive when not (live-of x (f 1) i) ∷ Held when held-read g done h s c x p offset w i ∷ []))
+        (λ f i. verdictOf (NotLive when not (live-of x (f 1) i) ∷ Held when read-held g done h s c x p offset w i ∷ []))
 
   -- and how many rows are taken
   module _ (x p offset w kind v : ℕ) where
@@ -87,7 +88,7 @@ module _ (g : Ground) (done : List (List ℕ)) (h : Past) (s : Lent) (c : Right 
         (judged (updates (sizeOf s) (pagesOf s) (roomOf s) (countOf s) (isLive (s .lost .tables)) (onlineOf s))
         ∙ (λ i. verdictOf (updates (size-read g done h s c i) (pages-read g done h s c i) (roomOf s) (countOf s) (isLive (s .lost .tables)) (onlineOf s)))
         ∙ past-all _≡_ (λ v. refl) (take 6 l) (drop 6 l) (drop 6 k)
-        (λ f i. verdictOf (NotLive when not (live-of x (f 1) i) ∷ Held when held-read g done h s c x p offset w i ∷ OnlineFull when noRoom (roomOf s) (countOf s) 1 ∷ [])))
+        (λ f i. verdictOf (NotLive when not (live-of x (f 1) i) ∷ Held when update-held g done h s c (rowOf p offset w kind v x) i ∷ OnlineFull when noRoom (roomOf s) (countOf s) 1 ∷ [])))
         (past-all (Unless OnlineFull) (λ v. inl refl) (take 8 k) (drop 8 k) (drop 8 (updates (h .size) (h .pages) 1 0 (h .live) (h .made))) (λ f. unless-full OnlineFull (noRoom (roomOf s) (countOf s) 1) (noRoom 1 0 1) Go refl))
 
   -- and how long the log is

@@ -13,12 +13,11 @@ use borrow.Author.Tests.{eq-eqb, eqb-true, le-leb, leb-true, ltb-true}
 use Rattle.word.proofs.Tests.{and-both, and-in}
 use Rattle.record.specs.Part.{part}
 use Rattle.record.specs.Rows.{rowAt, rows, keep, any}
-use Rattle.record.specs.Record.{ownerOf, numberOf, committed, bodyOf, entered, wellFormed, shareByte}
+use Rattle.record.specs.Record.{ownerOf, numberOf, committed, bodyOf, entered, wellFormed, free}
 use Rattle.rules.specs.Lent.{Lent, Durable, sizeOf, pagesOf, framesOf, roomOf, spanOf, lastOf, closedOf, loggedOf, stampOf, dirtyOf, firstOf, logOf, liveOf, onlineOf}
 use Rattle.rules.specs.Sound.{every, pairs, upTo, between, inRange, apart, same, exactLengths, s1-parameters, s2-lengths, s3-logged, s16-logged, s18-first, s15-stamps, s17-s19-dirty, s7-log-records, s14-log-zero, soundDurable, sound}
-use Rattle.rules.proofs.Every.{or-left, or-right, every-keep}
-use Rattle.onlinecheck.proofs.Rows.{every-imp}
-use Rattle.redo.proofs.Order.{free, free-sym, pairs-imp}
+use Rattle.rules.proofs.Every.{or-left, or-right, every-keep, every-imp}
+use Rattle.redo.proofs.Order.{free-sym, pairs-imp}
 use Rattle.redo.proofs.Views.{rising}
 use Rattle.redo.proofs.Loose.{≅-sym, ≅-pairs-true}
 use Rattle.redo.proofs.Numbered.{entered-committed, entered-number, entered-bytes}
@@ -129,15 +128,15 @@ differ-append (r ∷ l) m h k =
 
 -- S13: a committed record is apart from any other
 apart-sym : (a b : List ℕ) → apart a b ≡ true → apart b a ≡ true
-unfolding apart free
+unfolding apart
 apart-sym a b h = pick (committed a) (committed b) (eqb (ownerOf a) (ownerOf b)) refl h
   where
-    pick : (x y z : Bool) → eqb (ownerOf a) (ownerOf b) ≡ z → (x || y || z || not (shareByte a b)) ≡ true → (y || x || eqb (ownerOf b) (ownerOf a) || not (shareByte b a)) ≡ true
+    pick : (x y z : Bool) → eqb (ownerOf a) (ownerOf b) ≡ z → (x || y || z || free a b) ≡ true → (y || x || eqb (ownerOf b) (ownerOf a) || free b a) ≡ true
     pick true true z e p = refl
     pick true false z e p = refl
     pick false true z e p = refl
-    pick false false true e p = or-left (eqb (ownerOf b) (ownerOf a)) (not (shareByte b a)) (eq-eqb (ownerOf b) (ownerOf a) (sym (eqb-true (ownerOf a) (ownerOf b) e)))
-    pick false false false e p = or-right (eqb (ownerOf b) (ownerOf a)) (not (shareByte b a)) (free-sym a b p)
+    pick false false true e p = or-left (eqb (ownerOf b) (ownerOf a)) (free b a) (eq-eqb (ownerOf b) (ownerOf a) (sym (eqb-true (ownerOf a) (ownerOf b) e)))
+    pick false false false e p = or-right (eqb (ownerOf b) (ownerOf a)) (free b a) (free-sym a b p)
 
 apart-append : (l m : List (List ℕ)) → every committed l ≡ true → pairs apart m ≡ true → pairs apart (l ++ m) ≡ true
 unfolding pairs every apart

@@ -12,7 +12,7 @@ use Rattle.word.proofs.Tests.{and-both, and-in}
 use Rattle.record.specs.Rows.{rowAt, rows, keep, consIf, any}
 use Rattle.record.specs.Record.{entered}
 use Rattle.rules.proofs.Every.{every-kept-where}
-use Rattle.table.proofs.Laws.{Wide, none, one}
+use Rattle.record.proofs.Rows.{Wide, none, one}
 use Rattle.rules.specs.Sound.{every, same}
 use Rattle.redo.proofs.View.{keep-append}
 use Rattle.redo.proofs.Views.{keep-none}

@@ -22,6 +22,7 @@ use Rattle.rules.specs.Lent.{Lent, sizeOf, pagesOf, framesOf, roomOf, spanOf, l
 use Rattle.rules.specs.Sound.{every, inRange}
 use Rattle.rules.specs.Steps.{owned, committing, foldable, lowered, droppedBy, closed, stamped, formatted}
 use Rattle.rules.proofs.Extremes.{numberAtMost, lesser-most}
+use Rattle.rules.proofs.Kept.{length-lowered}
 use Rattle.durable.specs.Ranges.{Ranged}
 use Rattle.durable.proofs.Laws.{ranged}
 

@@ -5,7 +5,7 @@ use mathlib.Core.Bool.{true}
 use mathlib.Core.List.{List, []}
 use lib.ListN.{length, drop}
 use Rattle.record.specs.Part.{part}
-use Rattle.table.proofs.Laws.{Wide}
+use Rattle.record.proofs.Rows.{Wide}
 use Rattle.rules.specs.Lent.{Lent, Durable, sizeOf, pagesOf, framesOf, roomOf, countOf, usedOf, orderOf, entriesOf, onlineOf}
 use Rattle.rules.specs.Sound.{zeros}
 

@@ -8,7 +8,7 @@ use lib.ListN.{length}
 use lib.Dec.{eqb, leb, ltb}
 use borrow.Author.Tests.{ltb-true, ltb-false, leb-true, eqb-true, not-false}
 use Rattle.word.proofs.Tests.{and-both}
-use Rattle.record.specs.Record.{isLength}
+use Rattle.record.specs.Record.{isLength, rowOf}
 use Rattle.record.proofs.Laws.{length-most}
 use Rattle.rules.specs.declared.Refusal.the-variants.{NotSound, Argument, OnlineFull}
 use Rattle.rules.specs.declared.Bad.the-variants.{Parameter, Lent as LentLength}
@@ -16,7 +16,7 @@ use Rattle.rules.specs.declared.Verdict.the-variants.{Go}
 use Rattle.rules.specs.Lent.{Lent, sizeOf, pagesOf, roomOf, spanOf, lastOf, loggedOf, countOf, entryOf, onlineOf, inFrame}
 use Rattle.rules.specs.Sound.{sound, soundDurable, inRange, exactLengths}
 use Rattle.rules.specs.Steps.{owned, enteringAll}
-use Rattle.rules.specs.Calls.{Test, _when_, unsound, isNumber, isLive, held, beginRefusals, judgeBegin, readRefusals, judgeRead, updateRefusals, judgeUpdate, commitRefusals, judgeCommit, abortRefusals, judgeAbort, evictRefusals, judgeEvict, compactRefusals, judgeCompact, judgeClose, checkpointRefusals, judgeCheckpoint, judgeRestart, judgeFormat}
+use Rattle.rules.specs.Calls.{Test, _when_, unsound, isNumber, isLive, heldToRead, heldToUpdate, beginRefusals, judgeBegin, readRefusals, judgeRead, updateRefusals, judgeUpdate, commitRefusals, judgeCommit, abortRefusals, judgeAbort, evictRefusals, judgeEvict, compactRefusals, judgeCompact, judgeClose, checkpointRefusals, judgeCheckpoint, judgeRestart, judgeFormat}
 use Rattle.rules.proofs.Verdicts.{testAt, failed}
 
 pub begin-went : (s : Lent) (x : ℕ) → judgeBegin s x ≡ Go → (sound s ≡ true) × (isNumber x ≡ true) × (isLive (s .lost .tables) x ≡ false)
@@ -58,7 +58,7 @@ module _ (s : Lent) (n x p offset w : ℕ) (e : judgeRead s n x p offset w ≡ G
   )
 
   -- whose read it is, and that nobody else holds a byte of it
-  pub read-whose : (isNumber x ≡ true) × (isLive (s .lost .tables) x ≡ true) × (held (onlineOf s) x p offset w ≡ false)
+  pub read-whose : (isNumber x ≡ true) × (isLive (s .lost .tables) x ≡ true) × (heldToRead (onlineOf s) x p offset w ≡ false)
   unfolding readRefusals
   read-whose = (not-false (isNumber x) (none-held 2), not-false (isLive (s .lost .tables) x) (none-held 6), none-held 7)
 
@@ -84,7 +84,7 @@ module _ (s : Lent) (x p offset w kind v : ℕ) (e : judgeUpdate s x p offset w 
       )
 
   -- whose update it is, and what it writes
-  pub update-whose : (isLength w ≡ true) × (v < 256 ^ w) × (isLive (s .lost .tables) x ≡ true) × (held (onlineOf s) x p offset w ≡ false)
+  pub update-whose : (isLength w ≡ true) × (v < 256 ^ w) × (isLive (s .lost .tables) x ≡ true) × (heldToUpdate (onlineOf s) (rowOf p offset w kind v x) ≡ false)
   unfolding updateRefusals
   update-whose = (
     not-false (isLength w) (no-test 3),

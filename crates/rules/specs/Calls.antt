@@ -5,7 +5,7 @@ use mathlib.Core.List.{List, [], _∷_}
 use lib.ListN.{length, getD}
 use lib.Dec.{eqb, leb, ltb}
 use Rattle.record.specs.Rows.{any}
-use Rattle.record.specs.Record.{pageOf, ownerOf, committed, offsetOf, lengthOf, isLength, rowOf}
+use Rattle.record.specs.Record.{pageOf, ownerOf, committed, offsetOf, lengthOf, isLength, rowOf, overlaps}
 use Rattle.rules.specs.declared.Bad.{Bad}
 use Rattle.rules.specs.declared.Bad.the-variants.{Page, Number, Length, Place, Value, Kind, Parameter, Lent as LentLength}
 use Rattle.rules.specs.declared.Refusal.{Refusal}
@@ -15,7 +15,7 @@ use Rattle.rules.specs.declared.Verdict.the-variants.{Go, Refuse}
 use Rattle.rules.specs.declared.Answer.{Answer}
 use Rattle.rules.specs.declared.Answer.the-variants.{Done, NotDue, Refused}
 use Rattle.rules.specs.Lent.{Lent, sizeOf, pagesOf, roomOf, spanOf, lastOf, loggedOf, countOf, liveAt, entryOf, onlineOf, inFrame}
-use Rattle.rules.specs.Sound.{sound, soundDurable, between, inRange, exactLengths}
+use Rattle.rules.specs.Sound.{sound, soundDurable, between, inRange, exactLengths, apart}
 use Rattle.rules.specs.Steps.{Left, begun, readStep, readBytes, updated, owned, committing, aborted, evicted, due, compacted, closed, checkpointed, enteringAll, restarted, formatted}
 
 -- the answer, the lent bytes and read's buffer afterwards
@@ -78,12 +78,16 @@ judgeBegin s x = verdictOf (unsound s ∷ beginRefusals (isLive (s .lost .tables
 unfoldable pub beginCall : Lent → ℕ → Outcome
 beginCall s x = settled (judgeBegin s x) s [] (doneWith (begun s x) [])
 
--- refusal 6: a row of another live owner that shares a byte with those asked for. Rows of live owners are the uncommitted ones (S8)
+-- refusal 6, of a read: a row of another live owner has a byte of those asked for. Rows of live owners are the uncommitted ones (S8)
 unfoldable pub clashes : ℕ → ℕ → ℕ → ℕ → List ℕ → Bool
-clashes x p offset w r = not (committed r) && not (eqb (ownerOf r) x) && eqb (pageOf r) p && ltb (offsetOf r) (offset + w) && ltb offset (offsetOf r + lengthOf r)
+clashes x p offset w r = not (committed r) && not (eqb (ownerOf r) x) && overlaps p offset w r
 
-abbrev pub held : List (List ℕ) → ℕ → ℕ → ℕ → ℕ → Bool
-held online x p offset w = any (clashes x p offset w) online
+abbrev pub heldToRead : List (List ℕ) → ℕ → ℕ → ℕ → ℕ → Bool
+heldToRead online x p offset w = any (clashes x p offset w) online
+
+-- and of an update: the row that it would append is not apart from one that is there (S13)
+abbrev pub heldToUpdate : List (List ℕ) → List ℕ → Bool
+heldToUpdate online r = any (λ (a : List ℕ). not (apart a r)) online
 
 -- read: "transaction, page, offset, length 1 to page size"; n is the buffer's length
 unfoldable pub readRefusals : ℕ → ℕ → (ℕ → Bool) → List (List ℕ) → ℕ → ℕ → ℕ → ℕ → ℕ → List Test
@@ -94,7 +98,7 @@ readRefusals size pages live online n x p offset w =
     ∷ Argument Place when not (leb (offset + w) size)
     ∷ ShortBuffer when ltb n w
     ∷ NotLive when not (live x)
-    ∷ Held when held online x p offset w
+    ∷ Held when heldToRead online x p offset w
     ∷ []
 
 unfoldable pub judgeRead : Lent → ℕ → ℕ → ℕ → ℕ → ℕ → Verdict
@@ -113,7 +117,7 @@ updateRefusals size pages room m live online x p offset w kind v =
     ∷ Argument Value when not (ltb v (256 ^ w))
     ∷ Argument Kind when not (leb kind 1)
     ∷ NotLive when not (live x)
-    ∷ Held when held online x p offset w
+    ∷ Held when heldToUpdate online (rowOf p offset w kind v x)
     ∷ OnlineFull when noRoom room m 1
     ∷ []
 

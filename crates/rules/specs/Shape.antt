@@ -1,11 +1,17 @@
 -- What inner functions ask of the lent tables: less than soundness, enough to be safe, and kept by every step. Soundness gives it (crate `sound`).
 use Prim.Native.Nat.{ℕ, _+_, _*_, _/_, _≤_}
 use mathlib.Core.Path.{_≡_}
-use mathlib.Core.Bool.{true}
+use mathlib.Core.Bool.{Bool, true}
+use mathlib.Core.List.{List}
 use lib.ListN.{length}
 use lib.Dec.{leb, ltb}
+use Rattle.record.specs.Record.{pageOf}
 use Rattle.rules.specs.Lent.{Lent, sizeOf, pagesOf, framesOf, roomOf, spanOf, loggedOf, countOf, usedOf, orderOf, entriesOf}
 use Rattle.rules.specs.Sound.{every}
+
+-- a row's page is a page of the store
+abbrev pub pageBelow : ℕ → List ℕ → Bool
+pageBelow pages r = ltb (pageOf r) pages
 
 -- the parameters' ranges and the lengths of the areas
 pub record Sized (s : Lent) : Type 0 where

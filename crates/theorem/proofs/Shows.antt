@@ -14,7 +14,7 @@ use Rattle.word.specs.Word.{num}
 use Rattle.record.specs.Part.{part}
 use Rattle.record.specs.Rows.{keep}
 use Rattle.record.specs.Record.{numberOf, committed, applied, onPage, committedOn, ownedBy}
-use Rattle.apply.proofs.Laws.{length-applied}
+use Rattle.record.proofs.Changes.{length-applied}
 use Rattle.rules.specs.declared.Answer.the-variants.{Done}
 use Rattle.rules.specs.declared.Counts.{Counts}
 use Rattle.rules.specs.declared.Verdict.{Verdict}
