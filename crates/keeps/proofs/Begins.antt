@@ -117,7 +117,7 @@ unset-live : (lives : List ℕ) (x y : ℕ) → 1 ≤ x → 1 ≤ y → (y ≡ x
 unset-live lives x y k m n h = ap (λ (i : ℕ). eqb i 1) (getD-set-other lives (x - 1) (y - 1) 0 0 (λ z. n (omega arith))) ∙ h
 
 -- the rows of the others are owned by who is live still
-others-owned : (d : Durable) (lives : List ℕ) (x : ℕ) (l : List (List ℕ)) → 1 ≤ x → every (ownedRight d lives) l ≡ true
+pub others-owned : (d : Durable) (lives : List ℕ) (x : ℕ) (l : List (List ℕ)) → 1 ≤ x → every (ownedRight d lives) l ≡ true
     → every (ownedRight d (set lives (x - 1) 0)) (keep (λ (r : List ℕ). not (ownedBy x r)) l) ≡ true
 others-owned d lives x l low h =
     every-kept-where (λ (r : List ℕ). not (ownedBy x r)) (ownedRight d lives) (ownedRight d (set lives (x - 1) 0))

@@ -4,3 +4,6 @@ pub mod Clauses
 pub mod Fetching
 pub mod Begins
 pub mod Sweeps
+pub mod Durables
+pub mod Numbering
+pub mod Commits

@@ -9,7 +9,7 @@ use borrow.Author.Tests.{eqb-true, eqb-false, eq-eqb, not-true}
 use Rattle.word.proofs.Tests.{and-both, and-in}
 use Rattle.record.specs.Rows.{keep, consIf, any}
 use Rattle.record.specs.Record.{pageOf, offsetOf, lengthOf, ownerOf, numberOf, committed, shareByte}
-use Rattle.rules.specs.Sound.{every, pairs, upTo, agree, apart}
+use Rattle.rules.specs.Sound.{every, pairs, upTo, agree, apart, same}
 use Rattle.rules.specs.Calls.{clashes}
 use Rattle.rules.proofs.Every.{or-left, or-right, every-keep}
 use Rattle.seats.proofs.Counting.{upTo-all as upTo-from}
@@ -85,6 +85,12 @@ pairs-keep a b (r ∷ l) h =
     pick : (t : Bool) → every (b r) (keep a l) ≡ true → pairs b (keep a l) ≡ true → pairs b (consIf t r (keep a l)) ≡ true
     pick true h k = and-in (every (b r) (keep a l)) (pairs b (keep a l)) h k
     pick false h k = k
+
+-- a row is the same as itself
+pub same-itself : (l : List ℕ) → same l l ≡ true
+unfolding same
+same-itself [] = refl
+same-itself (x ∷ l) = and-in (eqb x x) (same l l) (eq-eqb x x refl) (same-itself l)
 
 -- S9 of two records
 abbrev pub differ : List ℕ → List ℕ → Bool
