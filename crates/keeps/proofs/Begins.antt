@@ -18,8 +18,8 @@ use Rattle.rules.specs.Shape.{Sized}
 use Rattle.rules.specs.Sound.{every, between, apart, sound}
 use Rattle.rules.specs.Steps.{freedOf, begun, evicted, owned, others, aborted}
 use Rattle.rules.proofs.Every.{every-set, every-keep, every-kept-where}
-use Rattle.onlinecheck.proofs.Rows.{every-imp}
-use Rattle.onlinecheck.proofs.Laws.{formed-page}
+use Rattle.rules.proofs.Every.{every-imp}
+use Rattle.rules.proofs.Clauses.{formed-page}
 use Rattle.seats.proofs.Seated.{Seated}
 use Rattle.seats.proofs.Places.{seated-leave}
 use Rattle.seats.proofs.Loops.{judgedEntries, seated-abort, abort-dirty}

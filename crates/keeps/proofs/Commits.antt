@@ -12,13 +12,13 @@ use borrow.Author.Tests.{eqb-true, ltb-true, leb-true, lt-ltb, le-leb}
 use Rattle.word.proofs.Tests.{and-both, and-in}
 use Rattle.record.specs.Rows.{rowAt, keep, any}
 use Rattle.record.specs.Record.{pageOf, ownerOf, numberOf, committed, ownedBy, onPage, bodyOf, wellFormed, numbered, numberRows, shareByte}
-use Rattle.table.proofs.Laws.{Wide, wide-keep, length-rows}
+use Rattle.record.proofs.Rows.{Wide, wide-keep, length-rows}
 use Rattle.rules.specs.Lent.{Lent, Durable, sizeOf, pagesOf, spanOf, lastOf, closedOf, loggedOf, firstOf, stampOf, dirtyOf, logOf, onlineOf}
 use Rattle.rules.specs.Sound.{every, pairs, between, same, apart, sound}
 use Rattle.rules.specs.Steps.{owned, committing}
 use Rattle.rules.proofs.Every.{every-set, every-keep}
-use Rattle.onlinecheck.proofs.Rows.{every-imp}
-use Rattle.onlinecheck.proofs.Laws.{formed-page}
+use Rattle.rules.proofs.Every.{every-imp}
+use Rattle.rules.proofs.Clauses.{formed-page}
 use Rattle.redo.proofs.View.{body-page, numbered-body, numberRows-bodies}
 use Rattle.redo.proofs.Numbered.{body-formed, numbered-committed, numbered-number, numbered-entered, entered-bytes}
 use Rattle.redo.proofs.Reader.{every-both}

@@ -12,14 +12,14 @@ use Rattle.record.specs.Rows.{any}
 use Rattle.record.specs.Record.{pageOf, offsetOf, lengthOf, ownerOf, numberOf, committed, isLength, wellFormed, rowOf, onPage}
 use Rattle.record.proofs.Laws.{length-most}
 use Rattle.order.specs.Order.{touched, frameFor}
-use Rattle.table.proofs.Laws.{length-rowOf}
+use Rattle.record.proofs.Rows.{length-rowOf}
 use Rattle.rules.specs.Lent.{Lent, Durable, sizeOf, pagesOf, framesOf, roomOf, countOf, orderOf, entryOf, entriesOf, onlineOf, inFrame, frameOf, isDirty, dirtyIn}
 use Rattle.rules.specs.Shape.{Sized}
 use Rattle.rules.specs.Sound.{every, apart, sound}
 use Rattle.rules.specs.Steps.{placed, placeOf, rebuilt, fetchedEntries, readStep, updated}
 use Rattle.rules.specs.Calls.{clashes, held, isNumber, isLive}
 use Rattle.rules.proofs.Verdicts.{number-least, number-most}
-use Rattle.onlinecheck.proofs.Rows.{every-imp}
+use Rattle.rules.proofs.Every.{every-imp}
 use Rattle.redo.proofs.Reader.{none-each}
 use Rattle.redo.proofs.Numbered.{row-page, row-offset, row-length, row-kind, row-value, row-owner, row-number}
 use Rattle.seats.proofs.Seated.{Seated}

@@ -20,7 +20,7 @@ use Rattle.rules.specs.Steps.{left, foldable, due, unfolded, compacted, compact
 use Rattle.rules.proofs.Every.{every-keep, every-kept-where}
 use Rattle.rules.proofs.Extremes.{smallest-nothing}
 use Rattle.rules.proofs.Needed.{unfolded-open}
-use Rattle.onlinecheck.proofs.Laws.{formed-page}
+use Rattle.rules.proofs.Clauses.{formed-page}
 use Rattle.redo.proofs.Views.{keep-none}
 use Rattle.redo.proofs.Reader.{every-both, none-each}
 use Rattle.seats.proofs.Loops.{any-kept}
