@@ -3,7 +3,7 @@ use Prim.Native.Nat.{ℕ}
 use mathlib.Core.Path.{_≡_, refl}
 use mathlib.Core.List.{List, [], _∷_, map}
 use lib.ListN.{replicate}
-use Rattle.rules.specs.Lent.{Lent, lentOf}
+use Rattle.rules.specs.Lent.{Lent, lentOf, given}
 use Rattle.cases.specs.Play.{Act, play}
 use Rattle.cases.specs.Play.Event.{Begin, Commit, Abort, Evict, Read, Update, Checkpoint, Restart, Loss, Format, Stored, Last, Closed, Logged, Online, Order, Stamp, Entry}
 use Rattle.cases.specs.Small.{Case, _gives_, done, blank}
@@ -12,7 +12,7 @@ use Rattle.cases.specs.Small.{Case, _gives_, done, blank}
 unfoldable pub victim-is-least-recent : List Case
 unfolding done
 victim-is-least-recent =
-    Format 512 8 2 4 8 0 gives done
+    Format (given 512 8 2 4 8) 0 gives done
     ∷ Begin 1 gives done
     ∷ Read 1 0 0 1 gives (0 ∷ 0 ∷ 1 ∷ 0 ∷ 0 ∷ 0 ∷ 99 ∷ [])
     ∷ Read 1 1 0 1 gives (0 ∷ 0 ∷ 1 ∷ 0 ∷ 0 ∷ 0 ∷ 99 ∷ [])
@@ -35,7 +35,7 @@ victim-is-least-recent =
 unfoldable pub numbered-in-table-order : List Case
 unfolding done
 numbered-in-table-order =
-    Format 512 8 2 4 8 10 gives done
+    Format (given 512 8 2 4 8) 10 gives done
     ∷ Begin 3 gives done
     ∷ Update 3 2 4 1 0 5 gives (0 ∷ 0 ∷ 1 ∷ 0 ∷ 0 ∷ [])
     ∷ Update 3 2 4 1 0 6 gives done
@@ -51,7 +51,7 @@ numbered-in-table-order =
 unfoldable pub whole-checkpoint : List Case
 unfolding done
 whole-checkpoint =
-    Format 512 8 2 4 8 0 gives done
+    Format (given 512 8 2 4 8) 0 gives done
     ∷ Begin 1 gives done
     ∷ Begin 2 gives done
     ∷ Update 1 1 0 1 0 9 gives (0 ∷ 0 ∷ 1 ∷ 0 ∷ 0 ∷ [])
@@ -82,7 +82,7 @@ whole-checkpoint =
 unfoldable pub both-ends : List Case
 unfolding done
 both-ends =
-    Format 512 8 2 4 1 4294967294 gives done
+    Format (given 512 8 2 4 1) 4294967294 gives done
     ∷ Begin 1 gives done
     ∷ Update 1 0 504 8 1 1 gives (0 ∷ 0 ∷ 1 ∷ 0 ∷ 0 ∷ [])
     ∷ Update 1 0 505 8 1 1 gives (2 ∷ 0 ∷ 0 ∷ 0 ∷ 0 ∷ [])

@@ -3,6 +3,7 @@ use Prim.Native.Nat.{ℕ, _+_, _*_}
 use mathlib.Core.List.{List, [], _∷_, _++_, map}
 use lib.ListN.{length, getD, take, replicate}
 use Rattle.rules.specs.declared.Reply.{Reply}
+use Rattle.rules.specs.declared.Params.{Params}
 use Rattle.rules.specs.Answers.{replyOf}
 use Rattle.rules.specs.Lent.{Lent, lentOf, sizeOf, lastOf, closedOf, firstOf, loggedOf, stampOf, dirtyOf, entryOf, orderOf, onlineOf, liveOf}
 use Rattle.word.specs.Word.{num, put}
@@ -21,7 +22,7 @@ pub data Act : Type 0 where
   Compact : ℕ → ℕ → ℕ → Act
   Checkpoint : ℕ → ℕ → Act
   Close Restart Loss : Act
-  Format : ℕ → ℕ → ℕ → ℕ → ℕ → ℕ → Act
+  Format : Params → ℕ → Act
   Stored : ℕ → ℕ → Act
   Last Closed Logged Online Order Tables Rows : Act
   Stamp Dirty Entry : ℕ → Act
@@ -58,7 +59,7 @@ step s (Checkpoint a b) = after (checkpointCall s a b)
 step s Close = after (closeCall s)
 step s Restart = after (restartCall s)
 step s Loss = looked (lost s) []
-step s (Format a b c d e f) = after (formatCall s a b c d e f)
+step s (Format g last) = after (formatCall s g last)
 step s (Stored p o) = looked s (getD (s .durable .stored) (p * sizeOf s + o) 0 ∷ [])
 step s Last = looked s (lastOf s ∷ [])
 step s Closed = looked s (closedOf s ∷ [])

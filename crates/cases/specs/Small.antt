@@ -4,7 +4,7 @@ use Prim.Native.Nat.{ℕ}
 use mathlib.Core.Path.{_≡_, refl}
 use mathlib.Core.List.{List, [], _∷_, _++_, map}
 use lib.ListN.{replicate}
-use Rattle.rules.specs.Lent.{Lent, lentOf}
+use Rattle.rules.specs.Lent.{Lent, lentOf, given}
 use Rattle.cases.specs.Play.{Act, play}
 use Rattle.cases.specs.Play.Event.{Begin, Commit, Abort, Evict, Read, Update, Compact, Close, Restart, Loss, Format, Stored, Last, Closed, Logged, Online, Tables, Rows, Stamp, Dirty, Entry}
 
@@ -37,7 +37,7 @@ restarted-rows =
 unfoldable pub p1-to-p12 : List Case
 unfolding done restarted-tables restarted-rows
 p1-to-p12 =
-    Format 512 8 2 4 8 0 gives done
+    Format (given 512 8 2 4 8) 0 gives done
     -- P1
     ∷ Begin 1 gives done
     ∷ Begin 1 gives (5 ∷ 0 ∷ 0 ∷ 0 ∷ 0 ∷ [])

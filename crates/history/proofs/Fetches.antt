@@ -14,7 +14,7 @@ use Rattle.record.proofs.Laws.{length-most}
 use Rattle.record.proofs.Changes.{length-apply}
 use Rattle.order.specs.Order.{touched, frameFor}
 use Rattle.record.proofs.Rows.{length-rowOf}
-use Rattle.rules.specs.Lent.{Lent, sizeOf, pagesOf, framesOf, roomOf, countOf, orderOf, entryOf, entriesOf, onlineOf, inFrame, frameOf, isDirty, dirtyIn, pageIn, withPage}
+use Rattle.rules.specs.Lent.{Lent, sizeOf, pagesOf, framesOf, onlineSizeOf, countOf, orderOf, entryOf, entriesOf, onlineOf, inFrame, frameOf, isDirty, dirtyIn, pageIn, withPage}
 use Rattle.rules.specs.Steps.{placed, placeOf, rebuilt, fetchedEntries, fetchedPool, readStep, updated}
 use Rattle.rules.specs.Calls.{heldToUpdate}
 use Rattle.rules.specs.Sound.{every, apart}
@@ -225,10 +225,10 @@ module _ {g : Ground} {done opened : List (List ℕ)} {live : ℕ → Bool} {fra
 
 -- update with any row of the history's kind that is apart from each open one
 update-right : {g : Ground} {done : List (List ℕ)} {h : Past} {s : Lent} (r : List ℕ) → pageOf r < pagesOf s → length r ≡ 19 → committed r ≡ false → openRow g (h .live) r ≡ true
-    → every (λ (a : List ℕ). apart a r) (openOf h) ≡ true → countOf s < roomOf s → Right g done h s → Right g done (updates h r) (updated s r .lent)
+    → every (λ (a : List ℕ). apart a r) (openOf h) ≡ true → countOf s < onlineSizeOf s → Right g done h s → Right g done (updates h r) (updated s r .lent)
 unfolding updated updates
 update-right {g} {done} {h} {s} r m long c o a room w =
-    settle (reads-updated s r (w .whole) long (omega arith) (ranges (w .durable) .room-most) (order-fits p m w) (below p m w) (rebuilt-length p m w))
+    settle (reads-updated s r (w .whole) long (omega arith) (ranges (w .durable) .online-most) (order-fits p m w) (below p m w) (rebuilt-length p m w))
     (past-update (w .past) r long c o a) (w .durable)
     (subst (λ (k : List (List ℕ)). After k (sizeOf s)) (sym (open-update h r c)) (subst (λ (n : ℕ). After (openOf h ++ (r ∷ [])) n) (sym size) after))
   where
@@ -261,7 +261,7 @@ apart-open {g} {done} {h} {s} r k t =
     (none-each b (openOf h) (none-after b (keep (aboveStamp (s .durable .marks)) (rowsOf g done)) (openOf h) all))
 
 -- update by an owner that is live, with arguments in range, where nobody else holds a byte and a row is free
-module _ {g : Ground} {done : List (List ℕ)} {h : Past} {s : Lent} (x p offset w kind v : ℕ) (a : p < pagesOf s) (b : 1 ≤ x) (c : x ≤ 32) (d : isLength w ≡ true) (e : offset + w ≤ sizeOf s) (f : v < 256 ^ w) (i : kind ≤ 1) (j : h .live x ≡ true) (k : heldToUpdate (onlineOf s) (rowOf p offset w kind v x) ≡ false) (l : countOf s < roomOf s) (t : Right g done h s) where
+module _ {g : Ground} {done : List (List ℕ)} {h : Past} {s : Lent} (x p offset w kind v : ℕ) (a : p < pagesOf s) (b : 1 ≤ x) (c : x ≤ 32) (d : isLength w ≡ true) (e : offset + w ≤ sizeOf s) (f : v < 256 ^ w) (i : kind ≤ 1) (j : h .live x ≡ true) (k : heldToUpdate (onlineOf s) (rowOf p offset w kind v x) ≡ false) (l : countOf s < onlineSizeOf s) (t : Right g done h s) where
   abbrev row : List ℕ
   row = rowOf p offset w kind v x
 

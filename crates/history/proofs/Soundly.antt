@@ -14,7 +14,7 @@ use Rattle.word.proofs.Tests.{and-both, and-in}
 use Rattle.record.specs.Part.{part}
 use Rattle.record.specs.Rows.{rowAt, rows, keep, any}
 use Rattle.record.specs.Record.{ownerOf, numberOf, committed, bodyOf, entered, wellFormed, free}
-use Rattle.rules.specs.Lent.{Lent, Durable, sizeOf, pagesOf, framesOf, roomOf, spanOf, lastOf, closedOf, loggedOf, stampOf, dirtyOf, firstOf, logOf, liveOf, onlineOf}
+use Rattle.rules.specs.Lent.{Lent, paramsOf, Durable, sizeOf, pagesOf, framesOf, onlineSizeOf, logSizeOf, lastOf, closedOf, loggedOf, stampOf, dirtyOf, firstOf, logOf, liveOf, onlineOf}
 use Rattle.rules.specs.Sound.{every, pairs, upTo, between, inRange, apart, same, exactLengths, s1-parameters, s2-lengths, s3-logged, s16-logged, s18-first, s15-stamps, s17-s19-dirty, s7-log-records, s14-log-zero, soundDurable, sound}
 use Rattle.rules.proofs.Every.{or-left, or-right, every-keep, every-imp}
 use Rattle.redo.proofs.Order.{free-sym, pairs-imp}
@@ -34,23 +34,23 @@ use Rattle.history.proofs.Facts.{done-formed, done-committed, done-risi
 module _ (g : Ground) (done : List (List ℕ)) (s : Lent) (d : DurableRight g done (s .durable)) where
   has-parameters : s1-parameters s ≡ true
   unfolding s1-parameters
-  has-parameters = and-in (eqb (length (s .durable .fixed)) 20) (inRange (sizeOf s) (pagesOf s) (framesOf s) (roomOf s) (spanOf s)) (eq-eqb (length (s .durable .fixed)) 20 (d .fixed)) (d .range)
+  has-parameters = and-in (eqb (length (s .durable .fixed)) 20) (inRange (paramsOf s)) (eq-eqb (length (s .durable .fixed)) 20 (d .fixed)) (d .range)
 
   has-lengths : Areas s → s2-lengths s ≡ true
   unfolding s2-lengths exactLengths
   has-lengths a =
       rw (
         eq-eqb (length (s .durable .marks)) (12 + 8 * pagesOf s) (marks-long d),
-        eq-eqb (length (s .durable .log)) (14 * spanOf s) (d .log),
+        eq-eqb (length (s .durable .log)) (14 * logSizeOf s) (d .log),
         eq-eqb (length (s .durable .stored)) (sizeOf s * pagesOf s) (stored-long d),
         eq-eqb (length (s .lost .tables)) (35 + framesOf s + pagesOf s) (a .tables),
-        eq-eqb (length (s .lost .online)) (19 * roomOf s) (a .online),
+        eq-eqb (length (s .lost .online)) (19 * onlineSizeOf s) (a .online),
         eq-eqb (length (s .lost .pool)) (sizeOf s * framesOf s) (a .pool),
       )
 
   few-logged : s3-logged s ≡ true
   unfolding s3-logged
-  few-logged = le-leb (loggedOf s) (spanOf s) (d .logged)
+  few-logged = le-leb (loggedOf s) (logSizeOf s) (d .logged)
 
   n-below : s16-logged s ≡ true
   unfolding s16-logged

@@ -13,7 +13,7 @@ use Rattle.word.proofs.Tests.{and-both, and-in}
 use Rattle.record.specs.Rows.{rowAt, keep, any}
 use Rattle.record.specs.Record.{pageOf, ownerOf, numberOf, committed, ownedBy, onPage, bodyOf, wellFormed, numbered, numberRows, shareByte}
 use Rattle.record.proofs.Rows.{Wide, wide-keep, length-rows}
-use Rattle.rules.specs.Lent.{Lent, Durable, sizeOf, pagesOf, spanOf, lastOf, closedOf, loggedOf, firstOf, stampOf, dirtyOf, logOf, onlineOf}
+use Rattle.rules.specs.Lent.{Lent, Durable, sizeOf, pagesOf, logSizeOf, lastOf, closedOf, loggedOf, firstOf, stampOf, dirtyOf, logOf, onlineOf}
 use Rattle.rules.specs.Sound.{every, pairs, between, same, apart, sound}
 use Rattle.rules.specs.Steps.{owned, committing}
 use Rattle.rules.proofs.Every.{every-set, every-keep}
@@ -74,7 +74,7 @@ last-apart a b h = go (committed a)
     go true = refl
     go false = rw h
 
-module _ (s : Lent) (x : ℕ) (e : sound s ≡ true) (low : 1 ≤ x) (high : x ≤ 32) (space : loggedOf s + length (owned s x) ≤ spanOf s) (numbers : lastOf s + length (owned s x) ≤ 4294967295) where
+module _ (s : Lent) (x : ℕ) (e : sound s ≡ true) (low : 1 ≤ x) (high : x ≤ 32) (space : loggedOf s + length (owned s x) ≤ logSizeOf s) (numbers : lastOf s + length (owned s x) ≤ 4294967295) where
   abbrev after : Lent
   after = committing s x .lent
 

@@ -13,7 +13,7 @@ use Rattle.record.specs.Record.{pageOf, offsetOf, lengthOf, ownerOf, numberOf, 
 use Rattle.record.proofs.Laws.{length-most}
 use Rattle.order.specs.Order.{touched, frameFor}
 use Rattle.record.proofs.Rows.{length-rowOf}
-use Rattle.rules.specs.Lent.{Lent, Durable, sizeOf, pagesOf, framesOf, roomOf, countOf, orderOf, entryOf, entriesOf, onlineOf, inFrame, frameOf, isDirty, dirtyIn}
+use Rattle.rules.specs.Lent.{Lent, Durable, sizeOf, pagesOf, framesOf, onlineSizeOf, countOf, orderOf, entryOf, entriesOf, onlineOf, inFrame, frameOf, isDirty, dirtyIn}
 use Rattle.rules.specs.Shape.{Sized}
 use Rattle.rules.specs.Sound.{every, apart, sound}
 use Rattle.rules.specs.Steps.{placed, placeOf, rebuilt, fetchedEntries, readStep, updated}
@@ -134,7 +134,7 @@ dirty-last online es r p f q on k h = go (eqb q p) refl
         ∙ sym (any-last (onPage q) online r ∙ ap (λ (t : Bool). any (onPage q) online || t) (ne-eqb (pageOf r) q (λ y. n (sym y ∙ on))) ∙ or-false (any (onPage q) online))
 
 -- an update with any row of an open transaction's that is apart from each row there
-module _ (s : Lent) (e : sound s ≡ true) (r : List ℕ) (m : pageOf r < pagesOf s) (long : length r ≡ 19) (free : countOf s < roomOf s)
+module _ (s : Lent) (e : sound s ≡ true) (r : List ℕ) (m : pageOf r < pagesOf s) (long : length r ≡ 19) (free : countOf s < onlineSizeOf s)
     (formed : wellFormed (sizeOf s) (pagesOf s) r ≡ true) (unset : committed r ≡ false) (none : numberOf r ≡ 0) (its : ownedRight (s .durable) (livesOf s) r ≡ true)
     (clear : every (λ (a : List ℕ). apart a r) (onlineOf s) ≡ true) where
   abbrev page : ℕ
@@ -167,7 +167,7 @@ module _ (s : Lent) (e : sound s ≡ true) (r : List ℕ) (m : pageOf r < pagesO
 
 -- an update by an owner that is live, with arguments in range, where nobody else holds a byte and a row is free
 module _ (s : Lent) (x p offset w kind v : ℕ) (e : sound s ≡ true) (a : p < pagesOf s) (b : isNumber x ≡ true) (d : isLength w ≡ true) (f : offset + w ≤ sizeOf s) (g : v < 256 ^ w) (i : kind ≤ 1)
-    (j : isLive (s .lost .tables) x ≡ true) (k : held (onlineOf s) x p offset w ≡ false) (l : countOf s < roomOf s) where
+    (j : isLive (s .lost .tables) x ≡ true) (k : held (onlineOf s) x p offset w ≡ false) (l : countOf s < onlineSizeOf s) where
   abbrev row : List ℕ
   row = rowOf p offset w kind v x
 

@@ -14,7 +14,7 @@ use Rattle.record.specs.Part.{withPart}
 use Rattle.record.specs.Rows.{keep, any}
 use Rattle.record.specs.Record.{pageOf, committed, onPage, committedOn, gone, greatest, smallest}
 use Rattle.record.proofs.Parts.{length-with}
-use Rattle.rules.specs.Lent.{Lent, sizeOf, pagesOf, roomOf, spanOf, lastOf, loggedOf, stampAt, dirtyAt, onlineOf}
+use Rattle.rules.specs.Lent.{Lent, sizeOf, pagesOf, onlineSizeOf, logSizeOf, lastOf, loggedOf, stampAt, dirtyAt, onlineOf}
 use Rattle.rules.specs.Sound.{every, sound}
 use Rattle.rules.specs.Steps.{left, foldable, due, unfolded, compacted, compactStep, lowered, droppedBy, closed, afterPages, checkpointed}
 use Rattle.rules.proofs.Every.{every-keep, every-kept-where}
@@ -80,7 +80,7 @@ module _ (s : Lent) (e : sound s ≡ true) (maxAge : ℕ) where
   unfolding compactStep compacted
   sweep-one t j k w = go (due t j 1 maxAge) refl
     where
-      few : roomOf t ≤ 512
+      few : onlineSizeOf t ≤ 512
       few = rw (w .fixed) (sound-sized s e .room)
 
       there : j < pagesOf t
