@@ -3,6 +3,7 @@ use Prim.Native.Nat.{ℕ, _+_, _*_}
 use mathlib.Core.List.{List, [], _∷_, _++_, map}
 use lib.ListN.{length, getD, take, replicate}
 use Rattle.rules.specs.declared.Reply.{Reply}
+use Rattle.rules.specs.declared.Params.{Params}
 use Rattle.rules.specs.Answers.{replyOf}
 use Rattle.rules.specs.Lent.{Lent, lentOf, sizeOf, lastOf, closedOf, firstOf, loggedOf, stampOf, dirtyOf, entryOf, orderOf, onlineOf, liveOf}
 use Rattle.word.specs.Word.{num, put}
@@ -13,7 +14,7 @@ use Rattle.rules.specs.Sound.{every, pairs, upTo, zeros, isPageSize, inRange, e
 use Rattle.rules.specs.Steps.{begun, placed, rebuilt, fetchedEntries, fetchedPool, readTables, readStep, readBytes, updateTables, updated, committing, framesFreed, judgedAnew, aborted, evicted, due, fromFrame, compactedPage, compactedEntry, compactedOrder, compacted, compactStep, lowered, droppedBy, closed, afterPages, checkpointed, entering, evictedAll, restarted, stamped, formatted}
 use Rattle.rules.specs.Calls.{Outcome, refuseIf, verdictOf, beginRefusals, judgeBegin, beginCall, clashes, readRefusals, judgeRead, readCall, updateRefusals, judgeUpdate, updateCall, commitRefusals, judgeCommit, commitCall, abortRefusals, judgeAbort, abortCall, evictRefusals, judgeEvict, evictCall, compactRefusals, judgeCompact, compactCall, judgeClose, closeCall, checkpointRefusals, judgeCheckpoint, checkpointCall, judgeRestart, restartCall, judgeFormat, formatCall}
 
--- a call, a power loss, or a look at something of the store. A read is lent a buffer of sevens, one longer than it asks for
+-- a call, a power loss, or a look at something of the store. A read is lent a buffer of 99s, which no case expects to be read, one longer than it asks for
 pub data Act : Type 0 where
   Begin Commit Abort Evict : ℕ → Act
   Read : ℕ → ℕ → ℕ → ℕ → Act
@@ -21,7 +22,7 @@ pub data Act : Type 0 where
   Compact : ℕ → ℕ → ℕ → Act
   Checkpoint : ℕ → ℕ → Act
   Close Restart Loss : Act
-  Format : ℕ → ℕ → ℕ → ℕ → ℕ → ℕ → Act
+  Format : Params → ℕ → Act
   Stored : ℕ → ℕ → Act
   Last Closed Logged Online Order Tables Rows : Act
   Stamp Dirty Entry : ℕ → Act
@@ -51,14 +52,14 @@ step s (Begin x) = after (beginCall s x)
 step s (Commit x) = after (commitCall s x)
 step s (Abort x) = after (abortCall s x)
 step s (Evict p) = after (evictCall s p)
-step s (Read x p o w) = after (readCall s (replicate (w + 1) 7) x p o w)
+step s (Read x p o w) = after (readCall s (replicate (w + 1) 99) x p o w)
 step s (Update x p o w k v) = after (updateCall s x p o w k v)
 step s (Compact p a b) = after (compactCall s p a b)
 step s (Checkpoint a b) = after (checkpointCall s a b)
 step s Close = after (closeCall s)
 step s Restart = after (restartCall s)
 step s Loss = looked (lost s) []
-step s (Format a b c d e f) = after (formatCall s a b c d e f)
+step s (Format g last) = after (formatCall s g last)
 step s (Stored p o) = looked s (getD (s .durable .stored) (p * sizeOf s + o) 0 ∷ [])
 step s Last = looked s (lastOf s ∷ [])
 step s Closed = looked s (closedOf s ∷ [])

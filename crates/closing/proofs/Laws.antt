@@ -10,11 +10,9 @@ use lib.Seq.{set-out, length-take-le}
 use lib.Dec.{eqb, leb}
 use borrow.Author.Tests.{eq-eqb, ne-eqb, leb-true, leb-false}
 use Rattle.word.specs.Word.{num, put}
-use Rattle.word.proofs.Laws.{length-put}
 use Rattle.record.specs.Part.{withPart}
 use Rattle.record.specs.Rows.{rowAt, rows, table, keep, consIf}
 use Rattle.record.specs.Record.{pageOf, ownerOf, numberOf, committed, lesser, smallest}
-use Rattle.record.proofs.Laws.{either-length}
 use Rattle.record.proofs.Rows.{rows-more, rows-end, rows-start, length-rows}
 use Rattle.table.proofs.Moves.{lent-back}
 use Rattle.rules.specs.Lent.{Lent, lentOf, dirtyAt}

@@ -14,7 +14,7 @@ use Rattle.record.proofs.Laws.{drop-zeros}
 use Rattle.rules.proofs.Every.{zeros-are}
 use Rattle.record.proofs.Rows.{length-rows, joined-all}
 use Rattle.order.specs.Order.{touched}
-use Rattle.rules.specs.Lent.{Lent, sizeOf, pagesOf, framesOf, roomOf, countOf, orderOf, entryAt, entryOf, entriesOf, onlineOf, inFrame, dirtyIn, pageIn, withPage, withOrder, withCount}
+use Rattle.rules.specs.Lent.{Lent, sizeOf, pagesOf, framesOf, onlineSizeOf, countOf, orderOf, entryAt, entryOf, entriesOf, onlineOf, inFrame, dirtyIn, pageIn, withPage, withOrder, withCount}
 use Rattle.rules.specs.Sound.{zeros}
 use Rattle.rules.specs.Shape.{Shaped}
 use Rattle.rules.specs.Steps.{freed, placed, placeOf, fetchedEntries, fetchedPool, updateTables, updated}
@@ -84,12 +84,12 @@ changed s p f n size pages frames m o t t′ g w q z i j h e =
     }
 
 -- what `update` leaves, by the row r of page p
-pub updated-row : (s : Lent) (r : List ℕ) (p f n size pages frames m : ℕ) (t o g g′ : List ℕ) → pageOf r ≡ p → length r ≡ 19 → Shaped s → countOf s < roomOf s → zeros (drop (countOf s * 19) (s .lost .online)) ≡ true → SizesRead (s .durable .fixed) size pages frames → m ≡ countOf s → PageUsed s p f n t g (updateTables s p) → o ≡ withPart (m * 19) 19 (s .lost .online) r → g′ ≡ withPage size f g (apply (rowAt 19 o m) (pageIn size f g)) → UpdateDone s r n t o g′
+pub updated-row : (s : Lent) (r : List ℕ) (p f n size pages frames m : ℕ) (t o g g′ : List ℕ) → pageOf r ≡ p → length r ≡ 19 → Shaped s → countOf s < onlineSizeOf s → zeros (drop (countOf s * 19) (s .lost .online)) ≡ true → SizesRead (s .durable .fixed) size pages frames → m ≡ countOf s → PageUsed s p f n t g (updateTables s p) → o ≡ withPart (m * 19) 19 (s .lost .online) r → g′ ≡ withPage size f g (apply (rowAt 19 o m) (pageIn size f g)) → UpdateDone s r n t o g′
 unfolding updated
 updated-row s r p f n size pages frames m t o g g′ e l w q y z i h eo eg =
     let b : m * 19 ≤ length (s .lost .online) = omega (arith, w .sized .online) in
     let c : rowAt 19 o m ≡ r = rw eo (row-back m (s .lost .online) r b l) in
-    let d : o ≡ table 19 (roomOf s) (onlineOf s ++ (r ∷ [])) = eo ∙ rw i (sym (row-appended (countOf s) (roomOf s) (s .lost .online) r (w .sized .online) q y)) in
+    let d : o ≡ table 19 (onlineSizeOf s) (onlineOf s ++ (r ∷ [])) = eo ∙ rw i (sym (row-appended (countOf s) (onlineSizeOf s) (s .lost .online) r (w .sized .online) q y)) in
     let k : g′ ≡ withPage (sizeOf s) (placeOf s p) (fetchedPool s p) (apply r (pageIn (sizeOf s) (placeOf s p) (fetchedPool s p))) = eg ∙ rw (c, z .size, h .frame, h .pool) in
     record {
       reads = rw e (h .reads);

@@ -86,7 +86,7 @@ module _ (g : Ground) (done opened : List (List ℕ)) (live : ℕ → Bool) (fra
 pub keeps-abort : {g : Ground} {done : List (List ℕ)} {h : Past} {s : Lent} (x : ℕ) → 1 ≤ x → x ≤ 32 → Right g done h s → Right g done (aborts h x) (aborted s x .lent)
 unfolding aborted aborts
 keeps-abort {g} {done} {h} {s} x a b r =
-    settle (reads-aborted s x (r .whole) (ranges (r .durable) .room-most) a b (online-below r))
+    settle (reads-aborted s x (r .whole) (ranges (r .durable) .online-most) a b (online-below r))
     (past-abort (r .past) x a) (r .durable)
     (subst (λ (o : List (List ℕ)). LostRight g done o (λ (y : ℕ). not (eqb y x) && h .live y) (framesOf s) (s .durable .marks) (s .durable .stored) (s .lost .pool)
     (framesFreed (framesOf s) (s .lost .tables) (owned s x) (orderOf s)) (set (livesOf s) (x - 1) 0) (judgedEntries (others s x) (owned s x) (entriesOf s)) (others s x))

@@ -12,7 +12,7 @@ use borrow.Author.Tests.{eqb-true, eqb-false, eq-eqb, ne-eqb, leb-true, le-leb, 
 use Rattle.word.proofs.Tests.{and-both, and-in}
 use Rattle.record.specs.Rows.{keep}
 use Rattle.record.specs.Record.{pageOf, numberOf, committed, applied, onPage, committedOn, smallest}
-use Rattle.rules.specs.Lent.{Lent, pagesOf, framesOf, roomOf, lastOf, closedOf, loggedOf, dirtyOf, firstOf, logOf, orderOf, entriesOf, onlineOf, pageIn}
+use Rattle.rules.specs.Lent.{Lent, pagesOf, framesOf, onlineSizeOf, lastOf, closedOf, loggedOf, dirtyOf, firstOf, logOf, orderOf, entriesOf, onlineOf, pageIn}
 use Rattle.rules.specs.Sound.{every, between}
 use Rattle.rules.specs.Steps.{droppedBy, closed}
 use Rattle.rules.proofs.Extremes.{hasNumber, numberAtMost, least as leastOf, smallest-nothing, smallest-split}
@@ -192,7 +192,7 @@ module _ (g : Ground) (done : List (List ℕ)) (h : Past) (s : Lent) (r : Right 
         first = omega (arith, closed-is, last-same);
         needed = restamped (λ (q : List ℕ). leb (firstOf after) (numberOf q)) needed-after;
         entered = restamped (λ (q : List ℕ). not (leb (numberOf q) (closedOf after) && eqb (dirtyOf after (pageOf q)) 0)) entered-after;
-        fits = subst (λ (l : List (List ℕ)). length l ≤ roomOf s) (sym lacked-same) (r .durable .fits);
+        fits = subst (λ (l : List (List ℕ)). length l ≤ onlineSizeOf s) (sym lacked-same) (r .durable .fits);
         page = λ p k. r .durable .page p k
             ∙ ap (λ (l : List (List ℕ)). applied l (pageIn (g .size) p (g .start)))
             (sym (keep-same-where (pageBelow (g .pages)) (λ (q : List ℕ). onPage p q && not (aboveStamp (after .durable .marks) q)) (λ (q : List ℕ). onPage p q && not (above q)) (λ q e. ap (λ (t : Bool). onPage p q && not t) (above-same q e)) (rowsOf g done) (done-paged (r .past))));

@@ -169,7 +169,7 @@ module _ {g : Ground} {done : List (List ℕ)} {h : Past} {s : Lent} (r : Right 
   compact-right : Right g done h (compacted s p .lent)
   unfolding compacted
   compact-right =
-      settle (reads-compacted s p (r .whole) (ranges (r .durable) .room-most) m) (r .past) compact-durable compact-lost
+      settle (reads-compacted s p (r .whole) (ranges (r .durable) .online-most) m) (r .past) compact-durable compact-lost
 
 -- compact keeps what is right
 pub keeps-compact : {g : Ground} {done : List (List ℕ)} {h : Past} {s : Lent} (p minDel maxAge : ℕ) → p < pagesOf s → due s p minDel maxAge ≡ true → Right g done h s → Right g done h (compacted s p .lent)

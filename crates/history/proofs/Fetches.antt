@@ -6,15 +6,15 @@ use mathlib.Core.Path.{_≡_, refl, sym, ap, _∙_, subst}
 use mathlib.Core.Bool.{Bool, true, false, cond, not, _&&_, _||_, or-true, or-false, or-assoc, Bool·not-not}
 use mathlib.Core.List.{List, [], _∷_, _++_, append-nil, append-assoc}
 use lib.ListN.{length, getD, set}
-use lib.Dec.{eqb, ltb}
+use lib.Dec.{eqb}
 use borrow.Author.Tests.{eqb-true, eqb-false, eq-eqb, ne-eqb, lt-ltb, le-leb}
 use Rattle.record.specs.Rows.{keep, consIf, any}
-use Rattle.record.specs.Record.{pageOf, offsetOf, lengthOf, ownerOf, committed, isLength, wellFormed, apply, applied, rowOf, onPage, shareByte}
+use Rattle.record.specs.Record.{pageOf, offsetOf, lengthOf, ownerOf, committed, isLength, wellFormed, apply, applied, rowOf, onPage}
 use Rattle.record.proofs.Laws.{length-most}
 use Rattle.record.proofs.Changes.{length-apply}
 use Rattle.order.specs.Order.{touched, frameFor}
 use Rattle.record.proofs.Rows.{length-rowOf}
-use Rattle.rules.specs.Lent.{Lent, sizeOf, pagesOf, framesOf, roomOf, countOf, orderOf, entryOf, entriesOf, onlineOf, inFrame, frameOf, isDirty, dirtyIn, pageIn, withPage}
+use Rattle.rules.specs.Lent.{Lent, sizeOf, pagesOf, framesOf, onlineSizeOf, countOf, orderOf, entryOf, entriesOf, onlineOf, inFrame, frameOf, isDirty, dirtyIn, pageIn, withPage}
 use Rattle.rules.specs.Steps.{placed, placeOf, rebuilt, fetchedEntries, fetchedPool, readStep, updated}
 use Rattle.rules.specs.Calls.{heldToUpdate}
 use Rattle.rules.specs.Sound.{every, apart}
@@ -29,6 +29,7 @@ use Rattle.seats.proofs.Places.{dirty-frame, dirty-dirty, placed-length, placed
 use Rattle.readback.proofs.Seen.{livesOf}
 use Rattle.readback.proofs.Pages.{page-length, page-same, page-other}
 use Rattle.readback.proofs.Lost.{entry-whole, length-rebuilt, length-fetched-pool, reads-read, reads-updated}
+use Rattle.keeps.proofs.Tests.{any-last, apart-row}
 use Rattle.history.specs.Past.{Past, updates}
 use Rattle.history.proofs.Right.{Ground, LostRight, Right, aboveStamp, rowsOf, openOf, openRow}
 use Rattle.history.proofs.Settle.{settle}
@@ -173,12 +174,6 @@ module _ {g : Ground} {done : List (List ℕ)} {h : Past} {s : Lent} (p : ℕ) (
   unfolding readStep
   keeps-read = settle (reads-read s p (r .whole) order-fits below rebuilt-length) (r .past) (r .durable) (fetched-right .0)
 
--- one more row
-any-last : (b : List ℕ → Bool) (l : List (List ℕ)) (r : List ℕ) → any b (l ++ (r ∷ [])) ≡ (any b l || b r)
-unfolding any
-any-last b [] r = or-false (b r)
-any-last b (x ∷ l) r = ap (λ (t : Bool). b x || t) (any-last b l r) ∙ sym (or-assoc (b x) (any b l) (b r))
-
 -- update of page p in its frame f: "applies, appends the record with its owner, and marks the page dirty"
 module _ {g : Ground} {done opened : List (List ℕ)} {live : ℕ → Bool} {frames : ℕ} {marks stored pool order lives entries : List ℕ} {online : List (List ℕ)} (l : LostRight g done opened live frames marks stored pool order lives entries online) (p f : ℕ) (m : p < g .pages) (i : inFrame (getD entries p 0) ≡ true) (at : frameOf (getD entries p 0) ≡ f) (long : length pool ≡ g .size * frames) (r : List ℕ) (on : pageOf r ≡ p) where
   -- the row is one of page p and of no other
@@ -230,10 +225,10 @@ module _ {g : Ground} {done opened : List (List ℕ)} {live : ℕ → Bool} {fra
 
 -- update with any row of the history's kind that is apart from each open one
 update-right : {g : Ground} {done : List (List ℕ)} {h : Past} {s : Lent} (r : List ℕ) → pageOf r < pagesOf s → length r ≡ 19 → committed r ≡ false → openRow g (h .live) r ≡ true
-    → every (λ (a : List ℕ). apart a r) (openOf h) ≡ true → countOf s < roomOf s → Right g done h s → Right g done (updates h r) (updated s r .lent)
+    → every (λ (a : List ℕ). apart a r) (openOf h) ≡ true → countOf s < onlineSizeOf s → Right g done h s → Right g done (updates h r) (updated s r .lent)
 unfolding updated updates
 update-right {g} {done} {h} {s} r m long c o a room w =
-    settle (reads-updated s r (w .whole) long (omega arith) (ranges (w .durable) .room-most) (order-fits p m w) (below p m w) (rebuilt-length p m w))
+    settle (reads-updated s r (w .whole) long (omega arith) (ranges (w .durable) .online-most) (order-fits p m w) (below p m w) (rebuilt-length p m w))
     (past-update (w .past) r long c o a) (w .durable)
     (subst (λ (k : List (List ℕ)). After k (sizeOf s)) (sym (open-update h r c)) (subst (λ (n : ℕ). After (openOf h ++ (r ∷ [])) n) (sym size) after))
   where
@@ -266,7 +261,7 @@ apart-open {g} {done} {h} {s} r k t =
     (none-each b (openOf h) (none-after b (keep (aboveStamp (s .durable .marks)) (rowsOf g done)) (openOf h) all))
 
 -- update by an owner that is live, with arguments in range, where nobody else holds a byte and a row is free
-module _ {g : Ground} {done : List (List ℕ)} {h : Past} {s : Lent} (x p offset w kind v : ℕ) (a : p < pagesOf s) (b : 1 ≤ x) (c : x ≤ 32) (d : isLength w ≡ true) (e : offset + w ≤ sizeOf s) (f : v < 256 ^ w) (i : kind ≤ 1) (j : h .live x ≡ true) (k : heldToUpdate (onlineOf s) (rowOf p offset w kind v x) ≡ false) (l : countOf s < roomOf s) (t : Right g done h s) where
+module _ {g : Ground} {done : List (List ℕ)} {h : Past} {s : Lent} (x p offset w kind v : ℕ) (a : p < pagesOf s) (b : 1 ≤ x) (c : x ≤ 32) (d : isLength w ≡ true) (e : offset + w ≤ sizeOf s) (f : v < 256 ^ w) (i : kind ≤ 1) (j : h .live x ≡ true) (k : heldToUpdate (onlineOf s) (rowOf p offset w kind v x) ≡ false) (l : countOf s < onlineSizeOf s) (t : Right g done h s) where
   abbrev row : List ℕ
   row = rowOf p offset w kind v x
 

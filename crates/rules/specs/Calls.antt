@@ -6,6 +6,7 @@ use lib.ListN.{length, getD}
 use lib.Dec.{eqb, leb, ltb}
 use Rattle.record.specs.Rows.{any}
 use Rattle.record.specs.Record.{pageOf, ownerOf, committed, offsetOf, lengthOf, isLength, rowOf, overlaps}
+use Rattle.rules.specs.declared.Params.{Params}
 use Rattle.rules.specs.declared.Bad.{Bad}
 use Rattle.rules.specs.declared.Bad.the-variants.{Page, Number, Length, Place, Value, Kind, Parameter, Lent as LentLength}
 use Rattle.rules.specs.declared.Refusal.{Refusal}
@@ -14,7 +15,7 @@ use Rattle.rules.specs.declared.Verdict.{Verdict}
 use Rattle.rules.specs.declared.Verdict.the-variants.{Go, Refuse}
 use Rattle.rules.specs.declared.Answer.{Answer}
 use Rattle.rules.specs.declared.Answer.the-variants.{Done, NotDue, Refused}
-use Rattle.rules.specs.Lent.{Lent, sizeOf, pagesOf, roomOf, spanOf, lastOf, loggedOf, countOf, liveAt, entryOf, onlineOf, inFrame}
+use Rattle.rules.specs.Lent.{Lent, sizeOf, pagesOf, onlineSizeOf, logSizeOf, lastOf, loggedOf, countOf, liveAt, entryOf, onlineOf, inFrame}
 use Rattle.rules.specs.Sound.{sound, soundDurable, between, inRange, exactLengths, apart}
 use Rattle.rules.specs.Steps.{Left, begun, readStep, readBytes, updated, owned, committing, aborted, evicted, due, compacted, closed, checkpointed, enteringAll, restarted, formatted}
 
@@ -122,7 +123,7 @@ updateRefusals size pages room m live online x p offset w kind v =
     ∷ []
 
 unfoldable pub judgeUpdate : Lent → ℕ → ℕ → ℕ → ℕ → ℕ → ℕ → Verdict
-judgeUpdate s x p offset w kind v = verdictOf (unsound s ∷ updateRefusals (sizeOf s) (pagesOf s) (roomOf s) (countOf s) (isLive (s .lost .tables)) (onlineOf s) x p offset w kind v)
+judgeUpdate s x p offset w kind v = verdictOf (unsound s ∷ updateRefusals (sizeOf s) (pagesOf s) (onlineSizeOf s) (countOf s) (isLive (s .lost .tables)) (onlineOf s) x p offset w kind v)
 
 unfoldable pub updateCall : Lent → ℕ → ℕ → ℕ → ℕ → ℕ → ℕ → Outcome
 updateCall s x p offset w kind v = settled (judgeUpdate s x p offset w kind v) s [] (doneWith (updated s (rowOf p offset w kind v x)) [])
@@ -137,7 +138,7 @@ commitRefusals span n last live k x =
     ∷ []
 
 unfoldable pub judgeCommit : Lent → ℕ → Verdict
-judgeCommit s x = verdictOf (unsound s ∷ commitRefusals (spanOf s) (loggedOf s) (lastOf s) (isLive (s .lost .tables)) (length (owned s x)) x)
+judgeCommit s x = verdictOf (unsound s ∷ commitRefusals (logSizeOf s) (loggedOf s) (lastOf s) (isLive (s .lost .tables)) (length (owned s x)) x)
 
 unfoldable pub commitCall : Lent → ℕ → Outcome
 commitCall s x = settled (judgeCommit s x) s [] (doneWith (committing s x) [])
@@ -197,18 +198,18 @@ checkpointCall s minDel maxAge = settled (judgeCheckpoint s minDel maxAge) s [] 
 
 -- restart: "more records enter than it holds"
 unfoldable pub judgeRestart : Lent → Verdict
-judgeRestart s = verdictOf (NotSound when not (soundDurable s) ∷ OnlineFull when ltb (roomOf s) (length (enteringAll s)) ∷ [])
+judgeRestart s = verdictOf (NotSound when not (soundDurable s) ∷ OnlineFull when ltb (onlineSizeOf s) (length (enteringAll s)) ∷ [])
 
 unfoldable pub restartCall : Lent → Outcome
 restartCall s = settled (judgeRestart s) s [] (doneWith (restarted s) [])
 
--- format: "an argument out of its range, … or (format) a lent length wrong"
-unfoldable pub judgeFormat : Lent → ℕ → ℕ → ℕ → ℕ → ℕ → Verdict
-judgeFormat s size pages frames room span =
+-- format: "an argument out of its range, … or (format) a lent length wrong"; "last log number L | 0 to 4,294,967,295"
+unfoldable pub judgeFormat : Lent → Params → ℕ → Verdict
+judgeFormat s g last =
     verdictOf
-    (Argument Parameter when not (inRange size pages frames room span)
-    ∷ Argument LentLength when not (eqb (length (s .durable .fixed)) 20 && exactLengths s size pages frames room span)
+    (Argument Parameter when not (inRange g && leb last 4294967295)
+    ∷ Argument LentLength when not (eqb (length (s .durable .fixed)) 20 && exactLengths s g)
     ∷ [])
 
-unfoldable pub formatCall : Lent → ℕ → ℕ → ℕ → ℕ → ℕ → ℕ → Outcome
-formatCall s size pages frames room span last = settled (judgeFormat s size pages frames room span) s [] (doneWith (formatted s size pages frames room span last) [])
+unfoldable pub formatCall : Lent → Params → ℕ → Outcome
+formatCall s g last = settled (judgeFormat s g last) s [] (doneWith (formatted s g last) [])

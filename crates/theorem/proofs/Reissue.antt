@@ -81,7 +81,7 @@ after-run r (then-call a n c) = call (after-run r a) n c
 after-run r (then-restart a) = restart (after-run r a)
 after-run r (then-loss a l f) = loss (after-run r a) l f
 after-run r (then-loss-inside a n minDel maxAge j e m l f) = loss-inside (after-run r a) n minDel maxAge j e m l f
-after-run r (then-no-format a size pages frames room span last why e) = no-format (after-run r a) size pages frames room span last why e
+after-run r (then-no-format a g last why e) = no-format (after-run r a) g last why e
 
 after-later : {h k : Past} {s t : Lent} → Run h s → After h s k t → Later h k
 after-later r here = now
@@ -89,7 +89,7 @@ after-later r (then-call a n c) = later-call (after-later r a) (run-right (after
 after-later r (then-restart {t} a) = later-restarted t (after-later r a)
 after-later r (then-loss a l f) = later-loss (after-later r a)
 after-later r (then-loss-inside a n minDel maxAge j e m l f) = later-loss (after-later r a)
-after-later r (then-no-format a size pages frames room span last why e) = after-later r a
+after-later r (then-no-format a g last why e) = after-later r a
 
 -- what is committed stands. The history h is of now, k is of any calls, losses and restarts later:
 -- what k has committed under the numbers up to the last of now is what h has committed, each update with its number, in the same order
