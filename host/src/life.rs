@@ -6,6 +6,7 @@
 
 use crate::areas::{get4, Areas, Lent, Reply, Sizes, LOG_ROW};
 use crate::calls::{Call, Store, CALL_NAMES};
+use crate::faults::entry_in_words;
 use crate::json::Json;
 use crate::machine::{lose, Fill};
 use crate::record::{Record, ADD, SET};
@@ -296,14 +297,6 @@ fn changes(before: &Areas, after: &Areas, call: &Call, reply: &Reply) -> Vec<Str
 
 fn records(count: u32) -> String {
     format!("{count} record{}", if count == 1 { "" } else { "s" })
-}
-
-fn entry_in_words(entry: u8) -> String {
-    match entry {
-        0 => "absent".into(),
-        1 => "evicted".into(),
-        _ => format!("{} in frame {}", if entry % 2 == 0 { "clean" } else { "dirty" }, entry / 2 - 1),
-    }
 }
 
 /// The store as the page shows it. After a loss the lost part is not looked at.

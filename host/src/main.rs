@@ -11,11 +11,14 @@ mod bench_stores;
 mod bench_tables;
 mod calls;
 mod cases;
+mod container;
 mod coverage;
 mod damage;
+mod faults;
 mod fence;
 mod flash;
 mod history;
+mod inspect;
 mod json;
 mod ledger;
 mod life;
@@ -76,8 +79,10 @@ fn usage() -> ExitCode {
          \x20      ventarico-host coverage [calls] [seed]  sessions and damage, then what they have shown\n\
          \x20      ventarico-host all [calls] [seed]       all of these\n\
          \x20      ventarico-host bench WHAT [FILE]        calls, growth, ledger, flash or quick; see host/bench\n\
-         \x20      ventarico-host life FILE                the torch's story as a page for a browser; see host/life",
-        CALLS / PAIRS_PART
+         \x20      ventarico-host life FILE                the torch's story as a page for a browser; see host/life\n\
+         \x20      ventarico-host {}  what a store in a file holds, and whether it is sound",
+        CALLS / PAIRS_PART,
+        inspect::WORDS
     );
     ExitCode::from(2)
 }
@@ -86,6 +91,9 @@ fn main() -> ExitCode {
     let words: Vec<String> = std::env::args().skip(1).collect();
     if words.first().is_some_and(|word| word == "bench") {
         return bench_tables::command(&Tested {}, LINKED, &words[1..]).unwrap_or_else(usage);
+    }
+    if words.first().is_some_and(|word| word == "inspect") {
+        return inspect::command(&words[1..]);
     }
     if let [word, file] = &words[..] {
         if word == "life" {
