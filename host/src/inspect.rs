@@ -159,7 +159,11 @@ impl Report {
         .unwrap();
         if self.has_rows() {
             let (last, first) = (a.last(), a.first());
-            let held = if a.logged() == 0 { "nothing".to_string() } else { format!("{first} to {last}") };
+            let held = match a.logged() {
+                0 => "nothing".to_string(),
+                1 => format!("number {last}"),
+                _ => format!("{first} to {last}"),
+            };
             writeln!(out, "L {last}, K {}, n {}: the log holds {held}", a.kay(), a.logged()).unwrap();
         }
         self.soundness_in_words(&mut out);
@@ -192,15 +196,15 @@ impl Report {
         if self.faults.is_empty() {
             writeln!(out, "{of}: sound").unwrap();
         } else {
-            writeln!(out, "{of}: NOT SOUND, every call but format answers 1").unwrap();
+            let but = if self.restart.is_some() { "restart and format" } else { "format" };
+            writeln!(out, "{of}: NOT SOUND, every call but {but} answers 1").unwrap();
         }
-        for (clause, name) in Clause::ALL {
+        for (clause, _) in Clause::ALL {
             let here: Vec<_> = self.faults.iter().filter(|fault| fault.clause == clause).collect();
             if here.is_empty() {
                 continue;
             }
-            let short = name.split_once(' ').map_or(name, |(_, short)| short);
-            writeln!(out, "  {}, {short}. {}", clause.label(), clause.sentence()).unwrap();
+            writeln!(out, "  {}: {}", clause.label(), clause.sentence()).unwrap();
             for fault in here.iter().take(SHOWN) {
                 writeln!(out, "    {}", fault.place).unwrap();
             }
@@ -409,12 +413,11 @@ mod tests {
             let report = whole(&specimen.areas);
             let (text, json) = (report.text(), report.json().to_string());
             assert_eq!(report.status(), NOT_SOUND, "{name}");
-            assert!(text.contains(&format!("  {}, ", clause.label())), "{name}: {text}");
-            assert!(text.contains(clause.sentence()), "{name}: {text}");
+            assert!(text.contains(&format!("  {}: {}\n", clause.label(), clause.sentence())), "{name}: {text}");
             assert!(json.contains(&format!("\"clause\":\"{}\"", clause.label())), "{name}: {json}");
             assert!(text.contains(&report.faults[0].place), "{name}: {text}");
             for (other, _) in Clause::ALL.into_iter().filter(|(other, _)| *other != clause) {
-                assert!(!text.contains(&format!("  {}, ", other.label())), "{name} shows {}", other.label());
+                assert!(!text.contains(&format!("  {}: ", other.label())), "{name} shows {}", other.label());
             }
         }
     }
