@@ -22,12 +22,16 @@ const ROW: u32 = 16;
 const ITS_ROW: u32 = 2;
 
 const NOBODY: u64 = 0;
+const SCREEN: u64 = 1001;
+const RADIO: u64 = 1002;
 const GAME: u64 = 7001;
 const TORCH: u64 = 9002;
 
 fn who(number: u64) -> String {
     match number {
         NOBODY => "nobody".into(),
+        SCREEN => "the screen".into(),
+        RADIO => "the radio".into(),
         GAME => "the game".into(),
         TORCH => "the torch".into(),
         other => format!("number {other}"),
@@ -38,8 +42,13 @@ enum Scene {
     Chapter(&'static str),
     /// A call, and the code that the story needs.
     Call(Call, u32),
-    /// A read of the row that must show this holder and charge.
-    Shows(u32, u64, u64),
+    /// A read of a row that must show this holder and charge.
+    Shows {
+        number: u32,
+        row: u32,
+        who: u64,
+        used: u64,
+    },
     Loss,
 }
 
@@ -58,22 +67,33 @@ fn story() -> Vec<Scene> {
     };
     let holder = |number, value| update(number, ITS_ROW * ROW, SET, value);
     let charge = |number, kind, value| update(number, ITS_ROW * ROW + 8, kind, value);
-    let look = |who, used| vec![Scene::Call(Call::Begin { number: 4 }, 0), Scene::Shows(4, who, used), cancel(4)];
+    let row = |row, who, used| vec![update(1, row * ROW, SET, who), update(1, row * ROW + 8, SET, used)];
+    let shows = |row, who, used| Scene::Shows { number: 4, row, who, used };
+    let look = |who, used| vec![begin(4), shows(ITS_ROW, who, used), cancel(4)];
     let checkpoint = || done(Call::Checkpoint { min_del: 1, max_age: 0 });
     let power = || vec![Scene::Loss, done(Call::Restart)];
 
     add(vec![chapter("A new store"), done(Call::Format { sizes: SIZES, last: 0 })]);
+    add(vec![chapter("The screen has row 0 and has used a charge of 310, the radio has row 1 and 120"), begin(1)]);
+    add(row(0, SCREEN, 310));
+    add(row(1, RADIO, 120));
+    add(vec![commit(1)]);
     add(vec![chapter("The game takes row 2 and uses a charge of 700. A checkpoint puts it into its page")]);
     add(vec![begin(1), holder(1, GAME), charge(1, SET, 700), commit(1), checkpoint()]);
     add(look(GAME, 700));
     add(vec![chapter("The game is deleted: its row is cleared, under number 3")]);
     add(vec![begin(3), holder(3, NOBODY), charge(3, SET, 0), commit(3)]);
     add(vec![chapter(
-        "Number 3 is given out again. The torch claims the row; the screen may not read it; the torch cancels",
+        "Number 3 is given out again. The torch claims the row; meanwhile nobody else may read it; the torch cancels",
     )]);
     add(vec![begin(3), holder(3, TORCH), charge(3, ADD, 5), begin(5)]);
     let read = Call::Read { number: 5, page: 0, offset: ITS_ROW * ROW, length: ROW, room: ROW };
-    add(vec![Scene::Call(read, 6), cancel(3), Scene::Shows(5, NOBODY, 0), cancel(5)]);
+    add(vec![
+        Scene::Call(read, 6),
+        cancel(3),
+        Scene::Shows { number: 5, row: ITS_ROW, who: NOBODY, used: 0 },
+        cancel(5),
+    ]);
     add(vec![chapter("First loss. The row must be free: no game, and nothing of the cancelled claim")]);
     add(power());
     add(look(NOBODY, 0));
@@ -103,8 +123,11 @@ fn story() -> Vec<Scene> {
     for page in 0..SIZES.pages {
         add(vec![done(Call::Read { number: 6, page, offset: 0, length: SIZES.page_size, room: SIZES.page_size })]);
     }
-    add(vec![cancel(6), chapter("The torch has used 40 + 2 + 8 = 50, and the game's 700 are gone")]);
-    add(look(TORCH, 50));
+    add(vec![
+        cancel(6),
+        chapter("The torch has used 40 + 2 + 8 = 50, the game's 700 are gone, the others have what they had"),
+    ]);
+    add(vec![begin(4), shows(0, SCREEN, 310), shows(1, RADIO, 120), shows(2, TORCH, 50), cancel(4)]);
     scenes
 }
 
@@ -150,9 +173,9 @@ fn play<S: Store>(store: &mut S) -> Result<(Vec<&'static str>, Vec<Shot>), Strin
                 continue;
             }
             Scene::Call(call, code) => (call, code, None),
-            Scene::Shows(number, who, used) => {
-                let offset = ITS_ROW * ROW;
-                (Call::Read { number, page: 0, offset, length: ROW, room: ROW }, 0, Some((who, used)))
+            Scene::Shows { number, row, who, used } => {
+                let (page, offset) = (row * ROW / SIZES.page_size, row * ROW % SIZES.page_size);
+                (Call::Read { number, page, offset, length: ROW, room: ROW }, 0, Some((who, used)))
             }
         };
         let (mut buffer, mut right_buffer) = (call.buffer(), call.buffer());
@@ -310,27 +333,33 @@ fn picture(a: &Areas, lost: bool) -> Json {
             ("text", Json::text(record_in_words(record.page.into(), record.offset.into(), record.kind, record.value))),
         ])
     };
-    let its_row = |bytes: &[u8]| {
-        let row = &bytes[(ITS_ROW * ROW) as usize..][..ROW as usize];
-        let (holder, charge) = (eight(row, 0), eight(row, 8));
-        Json::Object(vec![
-            ("holder", Json::text(who(holder))),
-            ("charge", Json::Number(charge)),
-            ("hex", Json::List(vec![Json::text(hex(&row[..8])), Json::text(hex(&row[8..]))])),
-        ])
+    // The rows that somebody holds, and the one that the story is about, with its bytes.
+    let rows = |page: u32, bytes: &[u8]| {
+        let first = page * SIZES.page_size / ROW;
+        let all = (first..).zip(bytes.chunks_exact(ROW as usize));
+        let all = all.filter(|(number, row)| *number == ITS_ROW || row.iter().any(|&byte| byte != 0));
+        Json::list(all, |(number, row)| {
+            let mut fields = vec![
+                ("row", number.into()),
+                ("holder", Json::text(who(eight(row, 0)))),
+                ("charge", Json::Number(eight(row, 8))),
+            ];
+            if number == ITS_ROW {
+                fields.push(("hex", Json::List(vec![Json::text(hex(&row[..8])), Json::text(hex(&row[8..]))])));
+            }
+            Json::Object(fields)
+        })
     };
     let pages = Json::list(0..SIZES.pages, |page| {
-        let bytes = a.stored_page(page);
         Json::Object(vec![
             ("stamp", a.stamp(page).into()),
             ("dirty", a.dirty(page).into()),
-            ("row", if page == 0 { its_row(bytes) } else { Json::Null }),
-            ("zero", Json::Flag(bytes.iter().all(|&byte| byte == 0))),
+            ("rows", rows(page, a.stored_page(page))),
         ])
     });
     let first = a.first() as u32;
-    let rows = a.log.chunks_exact(LOG_ROW).take(a.logged() as usize);
-    let log = Json::list(rows.zip(first..), |(row, number)| record(row, 0, number));
+    let logged = a.log.chunks_exact(LOG_ROW).take(a.logged() as usize);
+    let log = Json::list(logged.zip(first..), |(row, number)| record(row, 0, number));
     let rest = if lost {
         Json::Object(vec![("noise", Json::text(hex(&a.tables)))])
     } else {
@@ -338,7 +367,7 @@ fn picture(a: &Areas, lost: bool) -> Json {
             let page = (0..SIZES.pages).find(|&page| a.frame_of(page) == Some(frame as usize));
             Json::Object(vec![
                 ("page", page.map_or(Json::Null, Json::from)),
-                ("row", if page == Some(0) { its_row(a.frame(frame as usize)) } else { Json::Null }),
+                ("rows", page.map_or(Json::List(Vec::new()), |page| rows(page, a.frame(frame as usize)))),
             ])
         });
         Json::Object(vec![
