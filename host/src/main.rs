@@ -31,6 +31,8 @@ mod record;
 mod session;
 mod sound;
 mod states;
+#[cfg(test)]
+mod touched;
 mod twin;
 mod wrong;
 
