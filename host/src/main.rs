@@ -11,12 +11,17 @@ mod bench_stores;
 mod bench_tables;
 mod calls;
 mod cases;
+mod container;
 mod coverage;
 mod damage;
+mod faults;
 mod fence;
 mod flash;
 mod history;
+mod inspect;
+mod json;
 mod ledger;
+mod life;
 mod machine;
 mod pair;
 mod plot;
@@ -26,6 +31,8 @@ mod record;
 mod session;
 mod sound;
 mod states;
+#[cfg(test)]
+mod touched;
 mod twin;
 mod wrong;
 
@@ -73,8 +80,11 @@ fn usage() -> ExitCode {
          \x20      ventarico-host wrong [seed]             wrong stores, each of which must be caught\n\
          \x20      ventarico-host coverage [calls] [seed]  sessions and damage, then what they have shown\n\
          \x20      ventarico-host all [calls] [seed]       all of these\n\
-         \x20      ventarico-host bench WHAT [FILE]        calls, growth, ledger, rebuild, flash or quick; see host/bench",
-        CALLS / PAIRS_PART
+         \x20      ventarico-host bench WHAT [FILE]        calls, growth, ledger, rebuild, flash or quick; see host/bench\n\
+         \x20      ventarico-host life FILE                the torch's story as a page for a browser; see host/life\n\
+         \x20      ventarico-host {}  what a store in a file holds, and whether it is sound",
+        CALLS / PAIRS_PART,
+        inspect::WORDS
     );
     ExitCode::from(2)
 }
@@ -83,6 +93,14 @@ fn main() -> ExitCode {
     let words: Vec<String> = std::env::args().skip(1).collect();
     if words.first().is_some_and(|word| word == "bench") {
         return bench_tables::command(&Tested {}, LINKED, &words[1..]).unwrap_or_else(usage);
+    }
+    if words.first().is_some_and(|word| word == "inspect") {
+        return inspect::command(&words[1..]);
+    }
+    if let [word, file] = &words[..] {
+        if word == "life" {
+            return picture_of_a_life(file);
+        }
     }
     let Some(numbers) =
         words.iter().skip(1).map(|word| word.replace('_', "").parse().ok()).collect::<Option<Vec<u64>>>()
@@ -136,6 +154,22 @@ fn main() -> ExitCode {
     };
     println!("{passed} passed, {failed} failed");
     ExitCode::from(u8::from(failed > 0))
+}
+
+/// Writes the page of the torch's story.
+fn picture_of_a_life(file: &str) -> ExitCode {
+    let written = life::page(&mut Tested {}, LINKED)
+        .and_then(|(html, steps)| std::fs::write(file, html).map(|()| steps).map_err(|why| format!("{file}: {why}")));
+    match written {
+        Ok(steps) => {
+            println!("{file}: {steps} steps; open it in a browser");
+            ExitCode::SUCCESS
+        }
+        Err(why) => {
+            println!("life FAILED: {why}. Next: run the cases, then look at host/src/life.rs");
+            ExitCode::FAILURE
+        }
+    }
 }
 
 /// From the clock: each run without a seed goes over new ground.
