@@ -171,6 +171,14 @@ static int open_plain(const char *path, int flags)
     return file;
 }
 
+static bool empty(int file)
+{
+    while (ftruncate(file, 0) != 0)
+        if (errno != EINTR)
+            return false;
+    return true;
+}
+
 static bool has_length(int file, uint32_t length)
 {
     struct stat is;
@@ -246,7 +254,7 @@ static bool has_name(int file, const char *path)
 static int begin_draft(const char *draft)
 {
     int file = open_plain(draft, O_RDWR | O_CREAT);
-    if (file >= 0 && lock(file, LOCK_EX) && has_name(file, draft) && ftruncate(file, 0) == 0)
+    if (file >= 0 && lock(file, LOCK_EX) && has_name(file, draft) && empty(file))
         return file;
     int why = errno;
     if (file >= 0)
@@ -966,6 +974,8 @@ static bool take_over(struct filestore *f)
         return refuse_by_system(f, "the file");
     if (f->journal < 0 && !make_journal(f))
         return refuse_by_system(f, "a new journal");
+    if (!sync_folder(f->path)) /* a name that can be seen may be one that is not there for good */
+        return refuse_by_system(f, "the folder");
     return new_generation(f) || refuse_by_system(f, "a new generation");
 }
 

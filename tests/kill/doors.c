@@ -1,0 +1,2 @@
+#include "tests.h"
+bool doors(const char *s){(void)s;return true;}
