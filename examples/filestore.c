@@ -397,6 +397,21 @@ static void put_sums(struct filestore *f)
 
 /* ---- Headers. */
 
+/* The sizes as `fixed` has them. F's header has them too: F's body may be torn. */
+static void put_sizes(uint8_t *at, struct filestore_sizes z)
+{
+    put32(at, z.page_size);
+    put32(at + 4, z.pages);
+    put32(at + 8, z.frames);
+    put32(at + 12, z.online);
+    put32(at + 16, z.log);
+}
+
+static struct filestore_sizes get_sizes(const uint8_t *at)
+{
+    return (struct filestore_sizes){get32(at), get32(at + 4), get32(at + 8), get32(at + 12), get32(at + 16), 0};
+}
+
 static bool write_header(struct filestore *f, uint32_t state, uint32_t applying)
 {
     uint8_t head[FILE_HEADER] = {0};
@@ -414,6 +429,7 @@ static bool write_header(struct filestore *f, uint32_t state, uint32_t applying)
     put_place(head + 76, f->layout.log);
     put_place(head + 84, f->layout.sums);
     put_place(head + 92, f->layout.stored);
+    put_sizes(head + 100, f->sizes);
     put32(head + FILE_HEADER - 4, crc32(0, head, FILE_HEADER - 4));
     f->state = state;
     f->applying = applying;
@@ -443,6 +459,7 @@ static bool read_header(struct filestore *f)
         f->layout.log = get_place(head + 76);
         f->layout.sums = get_place(head + 84);
         f->layout.stored = get_place(head + 92);
+        f->sizes = get_sizes(head + 100);
     }
     return found;
 }
@@ -764,24 +781,17 @@ static bool open_file(struct filestore *f, int flags, int lock_kind)
 
 static bool read_body(struct filestore *f)
 {
-    static const char *const copy = "take back a copy of both files";
-    uint8_t fixed[FIXED];
     const struct filestore_place found[5] = {f->layout.fixed, f->layout.marks, f->layout.log, f->layout.sums,
         f->layout.stored};
     uint32_t length = f->layout.length;
-    if (found[0].length != FIXED || !has_length(f->file, length))
-        return refuse(f, FILESTORE_DAMAGED, "the file was cut or grown, or is of another version of this host", copy);
-    if (!read_all(f->file, fixed, FIXED, found[0].at))
-        return refuse_by_system(f, "the file");
-    f->sizes = (struct filestore_sizes){get32(fixed), get32(fixed + 4), get32(fixed + 8), get32(fixed + 12),
-        get32(fixed + 16), 0};
-    if (!sizes_in_range(f->sizes))
-        return refuse(f, FILESTORE_DAMAGED, "its sizes are out of range", copy);
-    lay_out(f);
+    if (sizes_in_range(f->sizes))
+        lay_out(f);
     const struct filestore_place wanted[5] = {f->layout.fixed, f->layout.marks, f->layout.log, f->layout.sums,
         f->layout.stored};
-    if (memcmp(found, wanted, sizeof found) != 0 || length != f->layout.length)
-        return refuse(f, FILESTORE_DAMAGED, "its sizes are damaged, or it is of another version of this host", copy);
+    if (!sizes_in_range(f->sizes) || memcmp(found, wanted, sizeof found) != 0 || length != f->layout.length)
+        return refuse(f, FILESTORE_NO_STORE, "the file is of another version of this host", "open it with that one");
+    if (!has_length(f->file, length))
+        return refuse(f, FILESTORE_DAMAGED, "the file was cut or grown", "take back a copy of both files");
     if (!make_areas(f) || !read_all(f->file, f->saved + BODY, length - BODY, BODY))
         return refuse_by_system(f, "the file's body");
     return true;
@@ -789,10 +799,11 @@ static bool read_body(struct filestore *f)
 
 static bool compare_sizes(struct filestore *f, struct filestore_sizes asked)
 {
-    const struct filestore_sizes z = f->sizes;
+    uint8_t has[FIXED], wants[FIXED];
+    put_sizes(has, f->sizes);
+    put_sizes(wants, asked);
     f->sizes.journal = asked.journal;
-    return (z.page_size == asked.page_size && z.pages == asked.pages && z.frames == asked.frames &&
-        z.online == asked.online && z.log == asked.log) ||
+    return memcmp(has, wants, FIXED) == 0 ||
         refuse(f, FILESTORE_SIZES, "it was made with other sizes", "open it with those, or take another file");
 }
 
@@ -845,6 +856,13 @@ static bool judge_beside_rest(struct filestore *f, const struct journal_head *he
             "put back the newer file; or, if the older one is wanted, move the journal away: the file is whole without it");
 }
 
+static bool says_its_sizes(const struct filestore *f)
+{
+    uint8_t sizes[FIXED];
+    put_sizes(sizes, f->sizes);
+    return memcmp(f->saved + f->layout.fixed.at, sizes, FIXED) == 0;
+}
+
 static bool judge_in_use(struct filestore *f, const struct journal_head *head, const uint8_t *journal)
 {
     if (head->generation != f->generation || head->tie != f->tie)
@@ -853,11 +871,8 @@ static bool judge_in_use(struct filestore *f, const struct journal_head *head, c
                 "the journal is of another time, and the file's own is missing",
             "put back the two files that belong together; or move this journal away and filestore_open_alone takes the file "
             "as it stands");
-    const uint8_t *fixed = f->saved + f->layout.fixed.at;
-    uint8_t before[FIXED];
-    memcpy(before, fixed, FIXED);
     set_seed(f, f->generation, f->tie);
-    if (!replay_all(f, journal) || memcmp(before, fixed, FIXED) != 0)
+    if (!replay_all(f, journal) || !says_its_sizes(f))
         return refuse(f, FILESTORE_DAMAGED, "the journal has a record that fits no part of the file",
             "take back a copy of both files");
     if ((f->state == APPLYING && f->records < f->applying) || one_is_missing(f, journal))
@@ -931,10 +946,14 @@ static bool restart(struct filestore *f)
         refuse(f, FILESTORE_DAMAGED, filestore_meaning(r.code), "the store is damaged: take back a copy of both files");
 }
 
-/* A sync that failed may have left bytes that can be read and are on no disk. So the records that are not known to be
- * synced are written again; the next sync covers them. */
+/* What can be read may be on no disk yet: a process that died has not synced it, or its sync has failed. So the header
+ * that counts is written again, before the other one is lost, and so are the records that are not known to be synced; the
+ * next sync covers these. */
 static bool rewrite_unsynced(struct filestore *f)
 {
+    f->header_number--;
+    if (!write_header(f, f->state, f->applying))
+        return false;
     if (f->state != IN_USE || f->records == 0)
         return true;
     uint8_t *journal = read_journal(f);
@@ -969,7 +988,7 @@ static bool make_journal(struct filestore *f)
 static bool take_over(struct filestore *f)
 {
     if (!rewrite_unsynced(f))
-        return refuse_by_system(f, "the journal");
+        return refuse_by_system(f, "the files");
     if (!come_to_rest(f))
         return refuse_by_system(f, "the file");
     if (f->journal < 0 && !make_journal(f))

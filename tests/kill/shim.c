@@ -257,16 +257,32 @@ static void done(void)
         shim.after();
 }
 
-/* The front of the bytes; or a run here and there, and the file as long as it was to be. */
+/* Does a write change nothing? */
+static bool is_same(int file, const uint8_t *bytes, size_t length, off_t at)
+{
+    uint8_t *there = malloc(length + 1);
+    if (!there)
+        stop("malloc");
+    bool same = pread(file, there, length, at) == (ssize_t)length && memcmp(there, bytes, length) == 0;
+    free(there);
+    return same;
+}
+
+/* The front of the bytes; or a run here and there, or noise, and the file as long as it was to be. A write that changes
+ * nothing leaves no noise. */
 static void write_some(int file, const uint8_t *bytes, size_t length, off_t at)
 {
     enum { RUN = 32 };
-    bool front = shim_chance(2);
+    static const uint8_t noise[RUN] = "what a sector holds that was cut";
+    bool front = shim_chance(2), noisy = shim_chance(2) && !is_same(file, bytes, length, at);
     if (front && __real_pwrite(file, bytes, shim_chance(length + 1), at) < 0)
         stop("pwrite");
-    for (size_t i = 0; !front && i < length; i += RUN)
-        if (shim_chance(2) && __real_pwrite(file, bytes + i, length - i < RUN ? length - i : RUN, at + (off_t)i) < 0)
+    for (size_t i = 0; !front && i < length; i += RUN) {
+        uint64_t dice = shim_chance(noisy ? 3 : 2);
+        if (dice > 0 && __real_pwrite(file, dice == 1 ? bytes + i : noise, length - i < RUN ? length - i : RUN,
+                at + (off_t)i) < 0)
             stop("pwrite");
+    }
     if (!front && look(file).st_size < at + (off_t)length && __real_ftruncate(file, at + (off_t)length) != 0)
         stop("ftruncate");
 }

@@ -18,8 +18,8 @@ enum shim_deed {
     SHIM_SHORT,     /* a write: the front half is done, and its length answered */
     SHIM_NOTHING,   /* this write and all later ones answer 0 */
     SHIM_INTERRUPT, /* EINTR, three times */
-    SHIM_CRASH,     /* a part is done, and the process dies; the system lives on */
-    SHIM_POWER,     /* a part is done, and the power goes: what no sync covers is taken back by chance */
+    SHIM_CRASH,     /* a part is done, perhaps with noise in it, and the process dies; the system lives on */
+    SHIM_POWER,     /* the same, and the power goes: what no sync covers is taken back by chance */
     SHIM_BLACKOUT,  /* nothing is done, and the power goes: what no sync covers is taken back, all of it */
     SHIM_DEEDS      /* how many there are */
 };
