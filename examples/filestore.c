@@ -768,7 +768,7 @@ static bool open_file(struct filestore *f, int flags, int lock_kind)
             "new store");
     if (f->file < 0)
         return refuse_by_system(f, "the file");
-    if (!lock(f->file, lock_kind))
+    if (!lock(f->file, lock_kind) || !has_name(f->file, f->path))
         return refuse_by_system(f, "the lock");
     if (has_length(f->file, 0))
         return refuse(f, FILESTORE_NO_STORE, "the file is empty", "take back a copy of both files; or remove both, and "
@@ -856,13 +856,6 @@ static bool judge_beside_rest(struct filestore *f, const struct journal_head *he
             "put back the newer file; or, if the older one is wanted, move the journal away: the file is whole without it");
 }
 
-static bool says_its_sizes(const struct filestore *f)
-{
-    uint8_t sizes[FIXED];
-    put_sizes(sizes, f->sizes);
-    return memcmp(f->saved + f->layout.fixed.at, sizes, FIXED) == 0;
-}
-
 static bool judge_in_use(struct filestore *f, const struct journal_head *head, const uint8_t *journal)
 {
     if (head->generation != f->generation || head->tie != f->tie)
@@ -872,7 +865,7 @@ static bool judge_in_use(struct filestore *f, const struct journal_head *head, c
             "put back the two files that belong together; or move this journal away and filestore_open_alone takes the file "
             "as it stands");
     set_seed(f, f->generation, f->tie);
-    if (!replay_all(f, journal) || !says_its_sizes(f))
+    if (!replay_all(f, journal))
         return refuse(f, FILESTORE_DAMAGED, "the journal has a record that fits no part of the file",
             "take back a copy of both files");
     if ((f->state == APPLYING && f->records < f->applying) || one_is_missing(f, journal))
@@ -987,14 +980,14 @@ static bool make_journal(struct filestore *f)
 /* All is known to be right: F takes in what the journal holds, and a new generation begins. */
 static bool take_over(struct filestore *f)
 {
+    if (!sync_folder(f->path)) /* a name that can be seen may be one that is not there for good */
+        return refuse_by_system(f, "the folder");
     if (!rewrite_unsynced(f))
         return refuse_by_system(f, "the files");
     if (!come_to_rest(f))
         return refuse_by_system(f, "the file");
     if (f->journal < 0 && !make_journal(f))
         return refuse_by_system(f, "a new journal");
-    if (!sync_folder(f->path)) /* a name that can be seen may be one that is not there for good */
-        return refuse_by_system(f, "the folder");
     return new_generation(f) || refuse_by_system(f, "a new generation");
 }
 

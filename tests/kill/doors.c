@@ -462,27 +462,38 @@ static bool is_long(bool without_last)
     return good;
 }
 
+/* The areas of the file, headers and padding left out: whatever is flipped there must be refused. */
+static bool is_in_an_area(struct copy file, size_t at)
+{
+    const uint8_t *head = header_of(file);
+    for (size_t i = 60; i < 100; i += 8)
+        if (at >= number_at(head + i) && at - number_at(head + i) < number_at(head + i + 4))
+            return true;
+    return false;
+}
+
 /* One byte of one file flipped: refused with nothing written, or nothing is lost. */
-static bool flip_holds(struct copy file, struct copy journal, bool in_journal, size_t at, uint8_t mask, size_t last_record)
+static bool flip_holds(struct copy file, struct copy journal, bool in_journal, size_t at, size_t last_record)
 {
     struct copy *hit = in_journal ? &journal : &file;
+    uint8_t mask = (uint8_t)(1u << shim_chance(8));
     hit->bytes[at] ^= mask;
     put_copy(path, file);
     put_copy(beside(path), journal);
     bool good;
-    if (opens())
-        good = is_long(false) || (in_journal && at >= last_record && is_long(true));
-    else
+    if (!opens())
         good = is_copy(path, file) && is_copy(beside(path), journal);
+    else if (in_journal)
+        good = is_long(false) || (at >= last_record && is_long(true));
+    else
+        good = is_long(false) && !is_in_an_area(file, at);
     filestore_drop(&f);
     hit->bytes[at] ^= mask;
     return good;
 }
 
-static void test_flips(void)
+static void flip_each_byte(void)
 {
-    topic = "flipped bits";
-    make_long();
     struct copy file = copy_of(path), journal = copy_of(beside(path));
     size_t at = 8192, last = at;
     for (uint32_t number = 1; number_at(journal.bytes + at + 8) == number && number_at(journal.bytes + at) ==
@@ -490,7 +501,6 @@ static void test_flips(void)
         last = at;
         at += (24 + number_at(journal.bytes + at + 4) + 7) / 8 * 8;
     }
-    CHECK(last > 8192 + 1000);
     unsigned long bad = 0, tried = 0;
     for (int in_journal = 0; in_journal < 2; in_journal++) {
         struct copy whole = in_journal ? journal : file;
@@ -499,7 +509,7 @@ static void test_flips(void)
             if (zeros > 64 && zeros % 61 != 0)
                 continue; /* long runs of zeros are looked at here and there */
             tried++;
-            bad += !flip_holds(file, journal, in_journal, i, (uint8_t)(1u << shim_chance(8)), last);
+            bad += !flip_holds(file, journal, in_journal, i, last);
         }
     }
     CHECK(bad == 0 && tried > 2500);
@@ -509,6 +519,17 @@ static void test_flips(void)
     filestore_drop(&f);
     free(file.bytes);
     free(journal.bytes);
+}
+
+static void test_flips(void)
+{
+    topic = "flipped bits, in use";
+    make_long();
+    flip_each_byte();
+    topic = "flipped bits, at rest";
+    make_long();
+    CHECK(opens() && filestore_leave(&f));
+    flip_each_byte();
 }
 
 static void flip_on_disk(const char *name, off_t at)
@@ -639,6 +660,32 @@ static void test_costs(void)
     shim = (struct shim){0};
 }
 
+/* The journal is filled again and again, by records of all lengths: it never grows. */
+static void test_full_journals(void)
+{
+    topic = "full journals";
+    clear_store(path);
+    CHECK(filestore_create(&f, path, story_sizes, NULL));
+    uint64_t first = f.generation;
+    off_t length = f.journal_length;
+    struct stat is;
+    for (uint32_t i = 0; i < 3000; i++) {
+        CHECK(filestore_begin(&f, 1).code == VENTARICO_DONE);
+        for (uint32_t n = 0; n <= i % 5; n++)
+            CHECK(filestore_update(&f, 1, n % STORY_PAGES, 8 * (uint32_t)shim_chance(60), 8, VENTARICO_ADD,
+                i + 1).code == VENTARICO_DONE);
+        if (filestore_commit(&f, 1).code == VENTARICO_LOG_FULL) {
+            CHECK(filestore_checkpoint(&f, 1, 0).code == VENTARICO_DONE);
+            CHECK(filestore_commit(&f, 1).code == VENTARICO_DONE);
+        }
+        CHECK(stat(beside(path), &is) == 0 && is.st_size == length);
+    }
+    CHECK(f.generation > first + 20);
+    filestore_drop(&f);
+    CHECK(opens());
+    filestore_drop(&f);
+}
+
 bool doors(const char *store)
 {
     char folder[4096];
@@ -662,6 +709,7 @@ bool doors(const char *store)
     test_view();
     test_numbers_end();
     test_costs();
+    test_full_journals();
     fflush(stderr);
     dup2(kept, STDERR_FILENO);
     topic = "what is said";

@@ -2,7 +2,7 @@
  *
  * In each round a child opens the store and does random transactions, up to four open at once. Over a pipe it says what
  * it is about to commit, and again when the commit came back. It dies in one of three ways:
- *   - killed: the parent sends SIGKILL at a random moment, and syncs are real ones;
+ *   - killed: the parent sends SIGKILL at a random moment; syncs are real ones, and what came before is on the disk;
  *   - crash: at a random call to the disk the child does a part of what was asked and kills itself;
  *   - power: the same, but what no sync has covered yet, of this process or of one that crashed, is taken back by chance.
  * In most rounds up to three more children die while they open the store, in the midst of mending it.
@@ -74,12 +74,16 @@ static bool open_or_create(struct filestore *f)
     return access(path, F_OK) == 0 ? filestore_open(f, path, sizes, NULL) : filestore_create(f, path, sizes, NULL);
 }
 
-static void checkpoint(struct filestore *f)
+/* A checkpoint; or a page compacted by itself, or a close. */
+static void tend(struct filestore *f)
 {
     static const uint32_t ages[] = {0, 4, UINT32_MAX};
-    ventarico_reply r = filestore_checkpoint(f, 1 + (uint32_t)shim_chance(2), ages[shim_chance(3)]);
+    uint32_t min_del = 1 + (uint32_t)shim_chance(2), max_age = ages[shim_chance(3)];
+    uint64_t dice = shim_chance(4);
+    ventarico_reply r = dice == 0 ? filestore_compact(f, (uint32_t)shim_chance(PAGES), min_del, max_age) :
+        dice == 1 ? filestore_close(f) : filestore_checkpoint(f, min_del, max_age);
     if (r.code != VENTARICO_DONE)
-        wrong("checkpoint", r.code);
+        wrong("compact, close or checkpoint", r.code);
     compare(f);
 }
 
@@ -103,7 +107,7 @@ static void child(int pipe)
         uint64_t dice = shim_chance(20);
         ventarico_reply r = {0};
         if (dice == 0) {
-            checkpoint(&f);
+            tend(&f);
         } else if (!live[t]) {
             r = filestore_begin(&f, t);
             if (r.code != VENTARICO_DONE)
@@ -247,6 +251,8 @@ static bool round_holds(unsigned long number)
         clear_store(path);
         memset(model, 0, sizeof model);
     }
+    if (killed)
+        shim_settle();
     if (pipe(pipes) != 0) {
         perror("pipe");
         return false;
@@ -257,7 +263,7 @@ static bool round_holds(unsigned long number)
     bool good = made > 0 && follow(made, pipes[0], killed ? (long)shim_chance(60) : 5000, &flight);
     close(pipes[0]);
     if (!good) {
-        printf("FAILED round %lu: the child ended in a way of its own. Next: its line above says which call.\n", number);
+        printf("FAILED kills, round %lu: the child ended in a way of its own. Next: its line above says which call.\n", number);
         return false;
     }
     if (deed != SHIM_POWER || shim_chance(2))
@@ -266,12 +272,12 @@ static bool round_holds(unsigned long number)
             pid_t opener = start_child(NULL, 1 + shim_chance(20), shim_chance(4) == 0 ? SHIM_CRASH : SHIM_POWER, true);
             waitpid(opener, &status, 0);
             if (WIFEXITED(status) && WEXITSTATUS(status) != 0) {
-                printf("FAILED round %lu: a child could not open the file. Next: do as its line above says.\n", number);
+                printf("FAILED kills, round %lu: a child could not open the file. Next: do as its line above says.\n", number);
                 return false;
             }
         }
     if (!read_store()) {
-        printf("FAILED round %lu: the file did not open again, or a page was not read. Next: judge() in "
+        printf("FAILED kills, round %lu: the file did not open again, or a page was not read. Next: judge() in "
                "examples/filestore.c.\n", number);
         return false;
     }
@@ -288,7 +294,7 @@ static bool round_holds(unsigned long number)
     size_t at = 0;
     while (((uint8_t *)found)[at] == ((uint8_t *)model)[at])
         at++;
-    printf("FAILED round %lu (%s): page %zu, offset %zu is %u; committed was %u. Next: see which save was cut, in "
+    printf("FAILED kills, round %lu (%s): page %zu, offset %zu is %u; committed was %u. Next: see which save was cut, in "
            "examples/filestore.c.\n", number, death, at / PAGE, at % PAGE, ((uint8_t *)found)[at],
         ((uint8_t *)model)[at]);
     memcpy(model, found, sizeof model); /* the next round is judged by itself */
@@ -304,7 +310,7 @@ bool kills(const char *store, uint64_t seed, unsigned long rounds)
     signal(SIGPIPE, SIG_IGN);
     printf("kills: seed %" PRIu64 " (the moments of SIGKILL differ from run to run)\n", seed);
     long began = milliseconds(), told = began;
-    for (unsigned long i = 0; i < rounds && failed < 3; i++) {
+    for (unsigned long i = 0; i < rounds && failed == 0; i++) {
         bool held = round_holds(i);
         passed += held;
         failed += !held;

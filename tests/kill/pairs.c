@@ -117,8 +117,8 @@ bool pairs(const char *store)
     if (!story.ended || story.failed > 0)
         return printf("FAILED pairs: the story does not hold by itself\n"), false;
     int kept = hush();
-    for (unsigned i = 0; i < files.count && failed < 3; i++)
-        for (unsigned k = 0; k < journals.count && failed < 3; k++, tried++) {
+    for (unsigned i = 0; i < files.count && failed == 0; i++)
+        for (unsigned k = 0; k < journals.count && failed == 0; k++, tried++) {
             const struct moment *f = &files.list[i], *j = &journals.list[k];
             bool accepted;
             shim_settle();

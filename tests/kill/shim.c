@@ -120,8 +120,16 @@ static struct change *note(struct change c)
     return &disk->list[disk->count++];
 }
 
+static void note_name(enum what what, int from, int to)
+{
+    if (!shim.real_syncs)
+        note((struct change){.what = what, .from = from, .to = to});
+}
+
 static void remember(int file, enum what what, size_t at, size_t length)
 {
+    if (shim.real_syncs)
+        return;
     struct stat is = look(file);
     size_t old_length = (size_t)is.st_size, end = at + length < old_length ? at + length : old_length;
     struct change *c = note((struct change){.what = what, .file = is.st_ino, .at = at, .length = length,
@@ -151,6 +159,8 @@ static void forget(ino_t file, bool names_too)
 {
     static bool keep[MOST];
     size_t kept = 0;
+    if (shim.real_syncs)
+        return;
     for (size_t i = 0; i < disk->count; i++) {
         const struct change *c = &disk->list[i];
         bool of_this = names_too ? c->what >= MADE : c->what < MADE && c->file == file;
@@ -374,7 +384,7 @@ int __wrap_rename(const char *from, const char *to)
         return -1;
     if (due && dies() && (shim.deed == SHIM_BLACKOUT || shim_chance(2)))
         die();
-    note((struct change){.what = RENAMED, .from = name_number(from), .to = name_number(to)});
+    note_name(RENAMED, name_number(from), name_number(to));
     int result = __real_rename(from, to);
     if (due && dies())
         die();
@@ -400,7 +410,7 @@ int __wrap_open(const char *path, int flags, ...)
         return -1;
     if (due && dies())
         die();
-    note((struct change){.what = MADE, .to = name_number(path)});
+    note_name(MADE, -1, name_number(path));
     int file = __real_open(path, flags, mode);
     done();
     return file;

@@ -29,7 +29,8 @@ struct shim {
     unsigned long at;         /* the call that is not done as it should; 0: none */
     enum shim_deed deed;
     unsigned long zeros;      /* how often a write has answered 0 */
-    bool real_syncs;          /* else a sync is only noted: so a test is quick */
+    bool real_syncs;          /* syncs are made, and nothing is noted: for a process that is killed at any moment, which
+                               * could be while a note is made. Else a sync is noted and not made: so a test is quick */
     void (*after)(void);      /* called behind each call that was done */
     unsigned long writes, syncs, bytes;
 };

@@ -19,22 +19,35 @@ static const char *const deed_names[SHIM_DEEDS] = {"none", "fails", "finds the d
 static struct story *story; /* shared with the child */
 static const char *path;
 
-static int tell_in_child(unsigned long at, enum shim_deed deed, uint64_t seed)
+/* Tells the story in a child, or only opens the store there. */
+static int in_child(bool only_open, unsigned long at, enum shim_deed deed, uint64_t seed)
 {
     fflush(NULL);
     pid_t child = fork();
     if (child == 0) {
+        story_pages pages;
         shim = (struct shim){.at = at, .deed = deed};
         shim_seed(seed);
         if (!freopen("/dev/null", "w", stderr)) /* refusals are expected here */
             _exit(8);
         alarm(20);
+        if (only_open)
+            _exit(story_look(path, pages, true) ? 0 : 1);
         story_tell(story, path);
         _exit(0);
     }
     int status = 0;
     waitpid(child, &status, 0);
     return status;
+}
+
+/* Up to two more children die while they open what is left, or their disk fails. */
+static void die_again(uint64_t seed)
+{
+    static const enum shim_deed deeds[] = {SHIM_POWER, SHIM_CRASH, SHIM_FAIL, SHIM_BLACKOUT};
+    shim_seed(seed);
+    for (uint64_t n = shim_chance(3); n > 0; n--)
+        in_child(true, 1 + shim_chance(26), deeds[shim_chance(4)], seed + n);
 }
 
 /* Must the story come to its end all the same? */
@@ -64,6 +77,7 @@ static bool holds_afterwards(uint64_t seed)
 {
     if (seed % 2 == 1)
         shim_power_loss(seed % 4 == 1);
+    die_again(seed);
     if (!shows_commits("afterwards"))
         return false;
     shim_power_loss(true);
@@ -73,7 +87,7 @@ static bool holds_afterwards(uint64_t seed)
         return true;
     story->broke = story->ended = false;
     story->failed = 0;
-    int status = tell_in_child(0, SHIM_NONE, seed);
+    int status = in_child(false, 0, SHIM_NONE, seed);
     shim_power_loss(true);
     if (status != 0 || !story->ended || story->failed > 0) {
         printf("  the story cannot be told once more\n");
@@ -86,7 +100,7 @@ static bool turn_holds(unsigned long at, enum shim_deed deed, uint64_t seed)
 {
     clear_store(path);
     *story = (struct story){0};
-    int status = tell_in_child(at, deed, seed);
+    int status = in_child(false, at, deed, seed);
     bool good = true;
     if (WIFEXITED(status) && WEXITSTATUS(status) == 9) {
         printf("  it would never end\n");
@@ -101,6 +115,8 @@ static bool turn_holds(unsigned long at, enum shim_deed deed, uint64_t seed)
         printf("  the story did not come to its end\n");
         good = false;
     }
+    if (is_harmless(deed))
+        shim_power_loss(true); /* what the story has committed needs nobody to end it */
     good = good && holds_afterwards(seed);
     if (!good)
         printf("FAILED turns: call %lu of the story %s, seed %lu. Next: tests/kill/run FOLDER turns %lu\n", at,
@@ -124,10 +140,10 @@ bool turns(const char *store, unsigned long only)
         return false;
     }
     unsigned long calls = shim.count, tried = 0, failed = 0;
-    for (unsigned long at = only ? only : 1; at <= (only ? only : calls) && failed < 3; at++)
-        for (enum shim_deed deed = SHIM_FAIL; deed < SHIM_DEEDS && failed < 3; deed++)
+    for (unsigned long at = only ? only : 1; at <= (only ? only : calls) && failed == 0; at++)
+        for (enum shim_deed deed = SHIM_FAIL; deed < SHIM_DEEDS && failed == 0; deed++)
             for (int i = 0; i < times[deed]; i++, tried++)
-                failed += !turn_holds(at, deed, at * 64 + (unsigned)deed * 8 + (unsigned)i);
+                failed += !turn_holds(at, deed, at * 37 + (unsigned)deed * 5 + (unsigned)i);
     shim = (struct shim){0};
     printf("turns: %lu of %lu held: each of the story's %lu calls to the disk, by %d faults\n", tried - failed, tried, calls,
         SHIM_DEEDS - 1);
