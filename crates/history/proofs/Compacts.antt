@@ -10,8 +10,8 @@ use borrow.Author.Tests.{leb-true, eqb-true}
 use Rattle.word.proofs.Tests.{and-both}
 use Rattle.record.specs.Rows.{keep, any}
 use Rattle.record.specs.Record.{applied, onPage, committedOn, smallest, greatest}
-use Rattle.apply.proofs.Laws.{length-applied}
-use Rattle.table.proofs.Laws.{keep-length}
+use Rattle.record.proofs.Changes.{length-applied}
+use Rattle.record.proofs.Rows.{keep-length}
 use Rattle.rules.specs.Lent.{Durable, Lent, pagesOf, framesOf, lastOf, entryOf, entriesOf, orderOf, onlineOf, inFrame, frameOf, isDirty, cleanIn, pageIn}
 use Rattle.rules.specs.Steps.{freedOf, foldable, due, fromFrame, compactedPage, compactedEntry, compactedOrder, unfolded, compacted}
 use Rattle.redo.proofs.Loose.{_≅_}
@@ -169,7 +169,7 @@ module _ {g : Ground} {done : List (List ℕ)} {h : Past} {s : Lent} (r : Right 
   compact-right : Right g done h (compacted s p .lent)
   unfolding compacted
   compact-right =
-      settle (reads-compacted s p (r .whole) (ranges (r .durable) .room-most) m) (r .past) compact-durable compact-lost
+      settle (reads-compacted s p (r .whole) (ranges (r .durable) .online-most) m) (r .past) compact-durable compact-lost
 
 -- compact keeps what is right
 pub keeps-compact : {g : Ground} {done : List (List ℕ)} {h : Past} {s : Lent} (p minDel maxAge : ℕ) → p < pagesOf s → due s p minDel maxAge ≡ true → Right g done h s → Right g done h (compacted s p .lent)

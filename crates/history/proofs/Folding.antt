@@ -14,10 +14,9 @@ use Rattle.record.specs.Rows.{keep, consIf, any}
 use Rattle.record.specs.Record.{pageOf, numberOf, committed, applied, onPage, committedOn, gone, greatest}
 use Rattle.rules.specs.Lent.{stampAt}
 use Rattle.rules.specs.Sound.{every, pairs}
-use Rattle.rules.proofs.Every.{keep-within, every-keep, every-kept-where}
+use Rattle.rules.proofs.Every.{keep-within, every-keep, every-kept-where, every-imp}
 use Rattle.rules.proofs.Extremes.{numberAtMost, greatest-all, greatest-most}
 use Rattle.rules.proofs.Needed.{open-stays}
-use Rattle.onlinecheck.proofs.Rows.{every-imp}
 use Rattle.redo.proofs.Order.{≈-picked}
 use Rattle.redo.proofs.Loose.{_≅_, then, ≅-equal, ≅-keep, ≅-free, ≅-every}
 use Rattle.redo.proofs.View.{keep-append}

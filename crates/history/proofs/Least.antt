@@ -14,8 +14,7 @@ use Rattle.record.specs.Rows.{keep, any}
 use Rattle.record.specs.Record.{pageOf, numberOf, committed, committedOn, smallest}
 use Rattle.rules.specs.Sound.{every, between}
 use Rattle.rules.proofs.Extremes.{hasNumber, smallest-found, smallest-nothing, smallest-some}
-use Rattle.rules.proofs.Every.{or-left, or-right, meet, every-keep}
-use Rattle.onlinecheck.proofs.Rows.{every-imp}
+use Rattle.rules.proofs.Every.{or-left, or-right, meet, every-keep, every-imp}
 use Rattle.redo.proofs.Loose.{_≅_, ≅-any, ≅-every}
 use Rattle.redo.proofs.Reader.{every-both}
 use Rattle.seats.proofs.Loops.{any-kept}

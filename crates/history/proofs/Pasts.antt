@@ -11,18 +11,18 @@ use lib.Dec.{eqb}
 use Rattle.word.proofs.Tests.{and-both}
 use Rattle.record.specs.Rows.{keep, consIf}
 use Rattle.record.specs.Record.{ownerOf, numberOf, committed, ownedBy, bodyOf, wellFormed}
-use Rattle.table.proofs.Laws.{Wide, none, one, wide-keep, wide-append, wide-bodies}
+use Rattle.record.proofs.Rows.{Wide, none, one, wide-keep, wide-append, wide-bodies}
+use Rattle.rules.specs.declared.Params.{Params}
 use Rattle.rules.specs.Sound.{every, pairs, between, apart}
-use Rattle.rules.proofs.Every.{every-kept, keep-within, every-kept-where}
-use Rattle.onlinecheck.proofs.Rows.{every-imp}
+use Rattle.rules.proofs.Every.{every-kept, keep-within, every-kept-where, every-imp}
 use Rattle.redo.proofs.View.{SameBody, keep-append}
 use Rattle.redo.proofs.Views.{keep-swap, keep-all}
 use Rattle.redo.proofs.Loose.{_≅_, still, then, numberedFrom, ≅-sym, ≅-equal, ≅-before, ≅-keep, ≅-wide, ≅-number, owned-open}
 use Rattle.redo.proofs.Numbered.{body-formed, keep-open-none, keep-others-all, numberedFrom-append, numberedFrom-wide}
 use Rattle.redo.proofs.Commits.{commit-loose, commit-open}
+use Rattle.keeps.proofs.Tests.{every-append, pairs-keep}
 use Rattle.history.specs.Past.{Past, fresh, begins, updates, commits, aborts, falls, rises}
 use Rattle.history.proofs.Right.{Ground, PastRight, rowsOf, uncommitted, openOf, openRow}
-use Rattle.history.proofs.Tested.{every-append, pairs-keep}
 use Rattle.history.proofs.Facts.{open-facts, done-committed, open-unset}
 
 -- tests of a list with one more
@@ -217,9 +217,9 @@ unfolding rises
 past-rises p = past-bare p false
 
 -- format: nothing is committed yet, and nothing made
-pub past-fresh : (size pages last : ℕ) (start : List ℕ) → last ≤ 4294967295 → PastRight (record { size = size; pages = pages; start = start; base = last }) [] (fresh size pages last start)
+pub past-fresh : (g : Params) (last : ℕ) (start : List ℕ) → last ≤ 4294967295 → PastRight (record { size = g .size; pages = g .pages; start = start; base = last }) [] (fresh g last start)
 unfolding fresh keep every pairs numberedFrom
-past-fresh size pages last start b =
+past-fresh g last start b =
     record {
       size = refl;
       pages = refl;

@@ -11,42 +11,26 @@ use borrow.Author.Tests.{eq-eqb}
 use Rattle.word.proofs.Tests.{and-both, and-in}
 use Rattle.record.specs.Rows.{rowAt, rows, keep, consIf, any}
 use Rattle.record.specs.Record.{entered}
-use Rattle.rules.proofs.Every.{every-kept-where, every-keep}
-use Rattle.table.proofs.Laws.{Wide, none, one}
-use Rattle.rules.specs.Sound.{every, pairs, upTo, same}
+use Rattle.rules.proofs.Every.{every-kept-where}
+use Rattle.record.proofs.Rows.{Wide, none, one}
+use Rattle.rules.specs.Sound.{every, same}
 use Rattle.redo.proofs.View.{keep-append}
 use Rattle.redo.proofs.Views.{keep-none}
 use Rattle.redo.proofs.Loose.{_≅_, numberedFrom, ≅-every}
 use Rattle.seats.proofs.Loops.{any-by}
-use Rattle.seats.proofs.Counting.{upTo-all as upTo-from}
+use Rattle.keeps.proofs.Tests.{every-append}
 
 -- what follows from a test that holds
 or-of : (a b : Bool) → a ≡ true → (not a || b) ≡ true → b ≡ true
 or-of true b h k = k
 or-of false b h k = let z : _≡_ {A = ℕ} 0 1 = cc in absurd (omega arith)
 
--- each of n numbers passes a test
-pub upTo-all : (b : ℕ → Bool) (n : ℕ) → ((i : ℕ) → i < n → b i ≡ true) → upTo b n 0 ≡ true
-upTo-all b n h = upTo-from b n 0 (λ i k. ap b (omega arith) ∙ h i k)
-
--- every row: behind some, all, appended, before others
+-- every row: behind some, before others
 pub every-drop : (b : List ℕ → Bool) (n : ℕ) (l : List (List ℕ)) → every b l ≡ true → every b (drop n l) ≡ true
 unfolding every
 every-drop b zero l h = h
 every-drop b (suc n) [] h = h
 every-drop b (suc n) (r ∷ l) h = every-drop b n l (and-both (b r) (every b l) h .1)
-
-pub every-all : (b : List ℕ → Bool) → ((r : List ℕ) → b r ≡ true) → (l : List (List ℕ)) → every b l ≡ true
-unfolding every
-every-all b f [] = refl
-every-all b f (r ∷ l) = and-in (b r) (every b l) (f r) (every-all b f l)
-
-pub every-append : (b : List ℕ → Bool) (l m : List (List ℕ)) → every b l ≡ true → every b m ≡ true → every b (l ++ m) ≡ true
-unfolding every
-every-append b [] m h k = k
-every-append b (r ∷ l) m h k =
-    let e : (b r ≡ true) × (every b l ≡ true) = and-both (b r) (every b l) h in
-    and-in (b r) (every b (l ++ m)) (e .0) (every-append b l m (e .1) k)
 
 pub every-front : (c : List ℕ → Bool) (l m : List (List ℕ)) → every c (l ++ m) ≡ true → every c l ≡ true
 unfolding every
@@ -74,18 +58,6 @@ picked-every a c (r ∷ l) h = pick (a r) (picked-every a c l) h
 pub online-all : (above : List ℕ → Bool) (rows opened : List (List ℕ)) {online : List (List ℕ)} → online ≅ keep above rows ++ opened
     → (c : List ℕ → Bool) → every (λ (r : List ℕ). not (above r) || c r) rows ≡ true → every c opened ≡ true → every c online ≡ true
 online-all above rows opened is c h k = ≅-every c is ∙ every-append c (keep above rows) opened (every-picked above c rows h) k
-
--- each two of those kept
-pub pairs-keep : (a : List ℕ → Bool) (b : List ℕ → List ℕ → Bool) (l : List (List ℕ)) → pairs b l ≡ true → pairs b (keep a l) ≡ true
-unfolding pairs keep
-pairs-keep a b [] h = refl
-pairs-keep a b (r ∷ l) h =
-    let e : (every (b r) l ≡ true) × (pairs b l ≡ true) = and-both (every (b r) l) (pairs b l) h in
-    pick (a r) (every-keep a (b r) l (e .0)) (pairs-keep a b l (e .1))
-  where
-    pick : (t : Bool) → every (b r) (keep a l) ≡ true → pairs b (keep a l) ≡ true → pairs b (consIf t r (keep a l)) ≡ true
-    pick true h k = and-in (every (b r) (keep a l)) (pairs b (keep a l)) h k
-    pick false h k = k
 
 -- rows of which none passes, before others
 pub keep-behind : (c : List ℕ → Bool) (l m : List (List ℕ)) → every (λ (r : List ℕ). not (c r)) l ≡ true → keep c (l ++ m) ≡ keep c m

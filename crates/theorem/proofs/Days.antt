@@ -7,6 +7,7 @@ use lib.ListN.{length, getD, drop}
 use lib.Dec.{leb}
 use borrow.Author.Tests.{leb-true}
 use Rattle.record.specs.Part.{part}
+use Rattle.rules.specs.declared.Params.{Params}
 use Rattle.rules.specs.declared.Answer.{Answer}
 use Rattle.rules.specs.declared.Answer.the-variants.{Done, Refused}
 use Rattle.rules.specs.declared.Counts.{Counts}
@@ -59,29 +60,29 @@ inside-runs {h} {s} r u minDel maxAge j l f = go (judgeCheckpoint s minDel maxAg
     go (Refuse why) e = loss r l f
 
 -- a format, accepted or refused
-format-runs : (d : Store) → Runs d → (size pages frames room span last : ℕ) (m : last ≤ 4294967295) → Runs (next d (Formats size pages frames room span last m))
+format-runs : (d : Store) → Runs d → (g : Params) (last : ℕ) → Runs (next d (Formats g last))
 unfolding next formatCall formatted fresh anew
-format-runs d r size pages frames room span last m = go (judgeFormat (d .lent) size pages frames room span) refl
+format-runs d r g last = go (judgeFormat (d .lent) g last) refl
   where
     o : Verdict → Outcome
-    o v = settled v (d .lent) [] (doneWith (formatted (d .lent) size pages frames room span last) [])
+    o v = settled v (d .lent) [] (doneWith (formatted (d .lent) g last) [])
 
     by : Answer → Store
-    by a = record { past = anew a (d .past) (fresh size pages last (d .lent .durable .stored)); lent = formatCall (d .lent) size pages frames room span last .lent }
+    by a = record { past = anew a (d .past) (fresh g last (d .lent .durable .stored)); lent = formatCall (d .lent) g last .lent }
 
-    go : (v : Verdict) → judgeFormat (d .lent) size pages frames room span ≡ v → Runs (by (formatCall (d .lent) size pages frames room span last .answer))
+    go : (v : Verdict) → judgeFormat (d .lent) g last ≡ v → Runs (by (formatCall (d .lent) g last .answer))
     go Go e =
-        let f : formatCall (d .lent) size pages frames room span last .answer ≡ Done (record { reads = 0; writes = 0; logs = 0 }) = ap (λ (v : Verdict). o v .answer) e in
-        subst (λ (a : Answer). Runs (by a)) (sym f) (format (d .lent) size pages frames room span last m f, refl)
+        let f : formatCall (d .lent) g last .answer ≡ Done (record { reads = 0; writes = 0; logs = 0 }) = ap (λ (v : Verdict). o v .answer) e in
+        subst (λ (a : Answer). Runs (by a)) (sym f) (format (d .lent) g last f, refl)
     go (Refuse why) e =
-        let f : formatCall (d .lent) size pages frames room span last .answer ≡ Refused why = ap (λ (v : Verdict). o v .answer) e in
-        subst (λ (a : Answer). Runs (by a)) (sym f) (no-format (r .0) size pages frames room span last why f, r .1)
+        let f : formatCall (d .lent) g last .answer ≡ Refused why = ap (λ (v : Verdict). o v .answer) e in
+        subst (λ (a : Answer). Runs (by a)) (sym f) (no-format (r .0) g last why f, r .1)
 
 -- after any event
 next-runs : (d : Store) → Runs d → (e : Event) → Runs (next d e)
 unfolding next called
 next-runs d r (Calls c) = (call (r .0) (r .1) c, told-up (d .past) c (outcome (d .lent) c .answer) (r .1))
-next-runs d r (Formats size pages frames room span last m) = format-runs d r size pages frames room span last m
+next-runs d r (Formats g last) = format-runs d r g last
 next-runs d r (Loses hold) = back-runs (d .past) (d .lent) (filled (d .lent) hold) (loss (r .0) (filled (d .lent) hold) (filled-fits (d .lent) hold))
 next-runs d r (LosesInside minDel maxAge j hold) = back-runs (d .past) (bytesInside (judgeCheckpoint (d .lent) minDel maxAge) minDel maxAge j (d .lent)) l (inside-runs (r .0) (r .1) minDel maxAge j l (filled-fits (d .lent) hold))
   where
@@ -95,14 +96,14 @@ day-runs d r u [] = (r, u)
 day-runs d r u (e ∷ es) = let q : Runs (next d e) = next-runs d (r, u) e in day-runs (next d e) (q .0) (q .1) es
 
 -- from an accepted format on, of any bytes at all
-module _ (s : Lent) (size pages frames room span last : ℕ) (m : last ≤ 4294967295) (e : formatCall s size pages frames room span last .answer ≡ Done (record { reads = 0; writes = 0; logs = 0 })) (es : List Event) where
+module _ (s : Lent) (g : Params) (last : ℕ) (e : formatCall s g last .answer ≡ Done (record { reads = 0; writes = 0; logs = 0 })) (es : List Event) where
   -- the store at the day's end
   abbrev pub evening : Store
-  evening = day (freshly s size pages frames room span last) es
+  evening = day (freshly s g last) es
 
   pub first-day : Run (evening .past) (evening .lent) × (evening .past .down ≡ false)
   unfolding fresh
-  first-day = day-runs (freshly s size pages frames room span last) (format s size pages frames room span last m e) refl es
+  first-day = day-runs (freshly s g last) (format s g last e) refl es
 
   -- so a read that is accepted shows what the calls and answers of the day tell, and nothing is asked but the accepted format
   pub day-reads : (buffer : List ℕ) (x p offset w : ℕ) (c : Counts) → readCall (evening .lent) buffer x p offset w .answer ≡ Done c → readCall (evening .lent) buffer x p offset w .buffer ≡ part offset w (shown (evening .past) x p) ++ drop w buffer

@@ -7,6 +7,7 @@ use mathlib.Core.Bool.{true, false, true≢false, false≢true}
 use mathlib.Core.List.{List, []}
 use lib.ListN.{length}
 use Rattle.record.specs.Record.{rowOf}
+use Rattle.rules.specs.declared.Params.{Params}
 use Rattle.rules.specs.declared.Refusal.{Refusal}
 use Rattle.rules.specs.declared.Refusal.the-variants.{OnlineFull, LogFull}
 use Rattle.rules.specs.declared.Answer.{Answer}
@@ -64,7 +65,7 @@ taken-aside h Restart e = absurd (false≢true e)
 -- what one store may do alone, and its losses, are a run's
 run-aside : {h : Past} {s t : Lent} → Run h s → Aside h s t → Run h t
 run-aside {h} {s} r (keeping n c e) = subst (λ (k : Past). Run k (outcome s c .lent)) (told-silent h c (taken-aside h c e) (outcome s c .answer)) (call r n c)
-run-aside r (not-formatted size pages frames room span last why e) = no-format r size pages frames room span last why e
+run-aside r (not-formatted g last why e) = no-format r g last why e
 
 run-loses : {h : Past} {s t : Lent} → Run h s → Loses h s t → Run (falls h) t
 run-loses r (between-calls l f) = loss r l f
@@ -100,10 +101,15 @@ module _ {h : Past} {s₁ s₂ : Lent} (r₁ : Rightly h s₁) (r₂ : Rightly h
   right-agree Close t f₁ f₂ = absurd (false≢true t)
   right-agree Restart t f₁ f₂ = absurd (false≢true t)
 
+-- a new history knows of the parameters the page size and the pages alone
+fresh-same : (g₁ g₂ : Params) (last : ℕ) {k l : List ℕ} → g₁ .size ≡ g₂ .size → g₁ .pages ≡ g₂ .pages → k ≡ l → fresh g₁ last k ≡ fresh g₂ last l
+unfolding fresh
+fresh-same g₁ g₂ last e f h = rw (e, f, h) refl
+
 -- each of two stores side by side is a run of the one history
 pub twin-runs : {h : Past} {s₁ s₂ : Lent} → Twins h s₁ s₂ → Run h s₁ × Run h s₂
-twin-runs (formats s₁ s₂ size pages last frames₁ room₁ span₁ frames₂ room₂ span₂ m e a₁ a₂) =
-    (format s₁ size pages frames₁ room₁ span₁ last m a₁, subst (λ (l : List ℕ). Run (fresh size pages last l) (formatCall s₂ size pages frames₂ room₂ span₂ last .lent)) (sym e) (format s₂ size pages frames₂ room₂ span₂ last m a₂))
+twin-runs (formats s₁ s₂ g₁ g₂ last es ep e a₁ a₂) =
+    (format s₁ g₁ last a₁, subst (λ (q : Past). Run q (formatCall s₂ g₂ last .lent)) (sym (fresh-same g₁ g₂ last es ep e)) (format s₂ g₂ last a₂))
 twin-runs (both {h} {s₁} {s₂} t n c k f₁ f₂) =
     let r : Run h s₁ × Run h s₂ = twin-runs t in
     let a : Agree (outcome s₁ c .answer) (outcome s₂ c .answer) = right-agree (run-right (r .0) n) (run-right (r .1) n) c k f₁ f₂ .0 in

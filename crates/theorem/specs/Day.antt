@@ -1,9 +1,10 @@
 -- An ordinary firmware: it lends each call what the last one left, and when the power is back it calls restart before anything else.
-use Prim.Native.Nat.{ℕ, zero, suc, _+_, _≤_}
+use Prim.Native.Nat.{ℕ, zero, suc, _+_}
 use mathlib.Core.Bool.{cond}
 use mathlib.Core.List.{List, [], _∷_}
 use lib.ListN.{length}
 use lib.Dec.{leb}
+use Rattle.rules.specs.declared.Params.{Params}
 use Rattle.rules.specs.declared.Answer.{Answer}
 use Rattle.rules.specs.declared.Answer.the-variants.{Done, NotDue, Refused}
 use Rattle.rules.specs.declared.Verdict.{Verdict}
@@ -13,11 +14,11 @@ use Rattle.rules.specs.Calls.{formatCall, judgeCheckpoint}
 use Rattle.history.specs.Past.{Past, fresh, falls}
 use Rattle.history.specs.Run.{Call, Restart, outcome, told, afterLoss, afterSteps}
 
--- a call with any arguments; a format (its last number is 32 bits wide in C); a loss between calls; a loss inside a checkpoint, after its first j steps.
+-- a call with any arguments, a format too; a loss between calls; a loss inside a checkpoint, after its first j steps.
 -- `hold a i` is byte i of the lost area a (tables, online, pool) when the power is back: anything at all
 pub data Event : Type 0 where
   Calls : Call → Event
-  Formats : (size pages frames room span last : ℕ) → last ≤ 4294967295 → Event
+  Formats : Params → ℕ → Event
   Loses : (hold : ℕ → ℕ → ℕ) → Event
   LosesInside : (minDel maxAge j : ℕ) (hold : ℕ → ℕ → ℕ) → Event
 
@@ -47,8 +48,8 @@ anew NotDue h k = h
 anew (Refused r) h k = h
 
 -- a store after its first format
-abbrev pub freshly : Lent → ℕ → ℕ → ℕ → ℕ → ℕ → ℕ → Store
-freshly s size pages frames room span last = record { past = fresh size pages last (s .durable .stored); lent = formatCall s size pages frames room span last .lent }
+abbrev pub freshly : Lent → Params → ℕ → Store
+freshly s g last = record { past = fresh g last (s .durable .stored); lent = formatCall s g last .lent }
 
 -- a call: the history goes by its answer
 unfoldable pub called : Store → Call → Store
@@ -66,10 +67,10 @@ bytesInside (Refuse r) minDel maxAge j s = s
 -- what the store is after an event
 unfoldable pub next : Store → Event → Store
 next d (Calls c) = called d c
-next d (Formats size pages frames room span last m) =
+next d (Formats g last) =
     record {
-      past = anew (formatCall (d .lent) size pages frames room span last .answer) (d .past) (fresh size pages last (d .lent .durable .stored));
-      lent = formatCall (d .lent) size pages frames room span last .lent;
+      past = anew (formatCall (d .lent) g last .answer) (d .past) (fresh g last (d .lent .durable .stored));
+      lent = formatCall (d .lent) g last .lent;
     }
 next d (Loses hold) = back (d .past) (d .lent) (filled (d .lent) hold)
 next d (LosesInside minDel maxAge j hold) = back (d .past) (bytesInside (judgeCheckpoint (d .lent) minDel maxAge) minDel maxAge j (d .lent)) (filled (d .lent) hold)

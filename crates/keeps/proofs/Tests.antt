@@ -1,0 +1,124 @@
+-- Tests of rows in a row: one more row, rows that are kept, and what S9 and S13 say of two rows.
+use Prim.Native.Nat.{ℕ, zero, suc, _+_, _<_}
+use native.Mathlib.Omega.{arith}
+use mathlib.Core.Path.{_≡_, refl, sym, ap, _∙_}
+use mathlib.Core.Bool.{Bool, true, false, not, _&&_, _||_, or-false, or-assoc}
+use mathlib.Core.List.{List, [], _∷_, _++_}
+use lib.Dec.{eqb, ltb}
+use borrow.Author.Tests.{eqb-true, eqb-false, eq-eqb, not-true}
+use Rattle.word.proofs.Tests.{and-both, and-in}
+use Rattle.record.specs.Rows.{keep, consIf, any}
+use Rattle.record.specs.Record.{pageOf, offsetOf, lengthOf, ownerOf, numberOf, committed, shareByte}
+use Rattle.rules.specs.Sound.{every, pairs, upTo, agree, apart, same}
+use Rattle.rules.specs.Calls.{clashes}
+use Rattle.rules.proofs.Every.{or-left, or-right, every-keep}
+use Rattle.seats.proofs.Counting.{upTo-all as upTo-from}
+
+-- each of n numbers passes a test
+pub upTo-all : (b : ℕ → Bool) (n : ℕ) → ((i : ℕ) → i < n → b i ≡ true) → upTo b n 0 ≡ true
+upTo-all b n h = upTo-from b n 0 (λ i k. ap b (omega arith) ∙ h i k)
+
+upTo-at-from : (b : ℕ → Bool) (n a i : ℕ) → upTo b n a ≡ true → i < n → b (a + i) ≡ true
+unfolding upTo
+upTo-at-from b zero a i h k = absurd (omega arith)
+upTo-at-from b (suc n) a zero h k =
+    let e : a + 0 ≡ a = omega arith in
+    rw e (and-both (b a) (upTo b n (a + 1)) h .0)
+upTo-at-from b (suc n) a (suc i) h k =
+    let e : a + suc i ≡ a + 1 + i = omega arith in
+    rw e (upTo-at-from b n (a + 1) i (and-both (b a) (upTo b n (a + 1)) h .1) (omega arith))
+
+pub upTo-at : (b : ℕ → Bool) (n i : ℕ) → upTo b n 0 ≡ true → i < n → b i ≡ true
+upTo-at b n i h k = ap b (omega arith) ∙ upTo-at-from b n 0 i h k
+
+-- two tests that agree
+pub agree-same : (a b : Bool) → a ≡ b → agree a b ≡ true
+agree-same true b e = sym e
+agree-same false b e = ap not (sym e)
+
+pub agree-then : (a b : Bool) → agree a b ≡ true → a ≡ b
+agree-then true b e = sym e
+agree-then false b e = sym (not-true b e)
+
+-- what every row passes
+pub every-all : (b : List ℕ → Bool) → ((r : List ℕ) → b r ≡ true) → (l : List (List ℕ)) → every b l ≡ true
+unfolding every
+every-all b f [] = refl
+every-all b f (r ∷ l) = and-in (b r) (every b l) (f r) (every-all b f l)
+
+-- rows appended: every row, each two, one at least
+pub every-append : (b : List ℕ → Bool) (l m : List (List ℕ)) → every b l ≡ true → every b m ≡ true → every b (l ++ m) ≡ true
+unfolding every
+every-append b [] m h k = k
+every-append b (r ∷ l) m h k =
+    let e : (b r ≡ true) × (every b l ≡ true) = and-both (b r) (every b l) h in
+    and-in (b r) (every b (l ++ m)) (e .0) (every-append b l m (e .1) k)
+
+pub every-one : (b : List ℕ → Bool) (r : List ℕ) → b r ≡ true → every b (r ∷ []) ≡ true
+unfolding every
+every-one b r h = rw h
+
+pub every-last : (b : List ℕ → Bool) (l : List (List ℕ)) (r : List ℕ) → every b l ≡ true → b r ≡ true → every b (l ++ (r ∷ [])) ≡ true
+every-last b l r h k = every-append b l (r ∷ []) h (every-one b r k)
+
+pub pairs-last : (b : List ℕ → List ℕ → Bool) (l : List (List ℕ)) (r : List ℕ) → pairs b l ≡ true → every (λ (a : List ℕ). b a r) l ≡ true → pairs b (l ++ (r ∷ [])) ≡ true
+unfolding pairs every
+pairs-last b [] r h k = refl
+pairs-last b (x ∷ l) r h k =
+    let e : (every (b x) l ≡ true) × (pairs b l ≡ true) = and-both (every (b x) l) (pairs b l) h in
+    let f : (b x r ≡ true) × (every (λ (a : List ℕ). b a r) l ≡ true) = and-both (b x r) (every (λ (a : List ℕ). b a r) l) k in
+    and-in (every (b x) (l ++ (r ∷ []))) (pairs b (l ++ (r ∷ []))) (every-last (b x) l r (e .0) (f .0)) (pairs-last b l r (e .1) (f .1))
+
+pub any-last : (b : List ℕ → Bool) (l : List (List ℕ)) (r : List ℕ) → any b (l ++ (r ∷ [])) ≡ (any b l || b r)
+unfolding any
+any-last b [] r = or-false (b r)
+any-last b (x ∷ l) r = ap (λ (t : Bool). b x || t) (any-last b l r) ∙ sym (or-assoc (b x) (any b l) (b r))
+
+-- each two of those kept
+pub pairs-keep : (a : List ℕ → Bool) (b : List ℕ → List ℕ → Bool) (l : List (List ℕ)) → pairs b l ≡ true → pairs b (keep a l) ≡ true
+unfolding pairs keep
+pairs-keep a b [] h = refl
+pairs-keep a b (r ∷ l) h =
+    let e : (every (b r) l ≡ true) × (pairs b l ≡ true) = and-both (every (b r) l) (pairs b l) h in
+    pick (a r) (every-keep a (b r) l (e .0)) (pairs-keep a b l (e .1))
+  where
+    pick : (t : Bool) → every (b r) (keep a l) ≡ true → pairs b (keep a l) ≡ true → pairs b (consIf t r (keep a l)) ≡ true
+    pick true h k = and-in (every (b r) (keep a l)) (pairs b (keep a l)) h k
+    pick false h k = k
+
+-- a row is the same as itself
+pub same-itself : (l : List ℕ) → same l l ≡ true
+unfolding same
+same-itself [] = refl
+same-itself (x ∷ l) = and-in (eqb x x) (same l l) (eq-eqb x x refl) (same-itself l)
+
+-- S9 of two records
+abbrev pub differ : List ℕ → List ℕ → Bool
+differ a b = eqb (numberOf a) 0 || not (eqb (numberOf a) (numberOf b))
+
+pub differ-by : (a b : List ℕ) → (numberOf a ≡ numberOf b → numberOf a ≡ 0) → differ a b ≡ true
+differ-by a b h = go (eqb (numberOf a) (numberOf b)) refl
+  where
+    go : (t : Bool) → eqb (numberOf a) (numberOf b) ≡ t → (eqb (numberOf a) 0 || not t) ≡ true
+    go true e = or-left (eqb (numberOf a) 0) false (eq-eqb (numberOf a) 0 (h (eqb-true (numberOf a) (numberOf b) e)))
+    go false e = or-right (eqb (numberOf a) 0) true refl
+
+pub differ-then : (a b : List ℕ) → differ a b ≡ true → numberOf a ≡ numberOf b → numberOf a ≡ 0
+differ-then a b h e = go (eqb (numberOf a) 0) refl h
+  where
+    go : (t : Bool) → eqb (numberOf a) 0 ≡ t → (t || not (eqb (numberOf a) (numberOf b))) ≡ true → numberOf a ≡ 0
+    go true k p = eqb-true (numberOf a) 0 k
+    go false k p = absurd (eqb-false (numberOf a) (numberOf b) (not-true (eqb (numberOf a) (numberOf b)) p) e)
+
+-- S13 of a record and a new one: refusal 6 did not come, so the new one is apart from it
+pub apart-row : (x p offset w : ℕ) (r : List ℕ) → pageOf r ≡ p → offsetOf r ≡ offset → lengthOf r ≡ w → ownerOf r ≡ x → (a : List ℕ) → not (clashes x p offset w a) ≡ true → apart a r ≡ true
+unfolding clashes apart shareByte
+apart-row x p offset w r e₁ e₂ e₃ e₄ a h =
+    rw (e₁, e₂, e₃) (ap (λ (y : ℕ). committed a || eqb y 0 || eqb (ownerOf a) y || not (eqb (pageOf a) p && ltb (offsetOf a) (offset + w) && ltb offset (offsetOf a + lengthOf a))) e₄
+    ∙ go (committed a) (eqb x 0) (eqb (ownerOf a) x) (eqb (pageOf a) p) (ltb (offsetOf a) (offset + w)) (ltb offset (offsetOf a + lengthOf a)) h)
+  where
+    go : (c d o y z u : Bool) → not (not c && not o && y && z && u) ≡ true → (c || d || o || not (y && z && u)) ≡ true
+    go true d o y z u k = refl
+    go false true o y z u k = refl
+    go false false true y z u k = refl
+    go false false false y z u k = k
