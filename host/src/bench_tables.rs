@@ -89,7 +89,8 @@ impl<S: Store + Clone> Bench<S> {
 
     /// A read of an evicted page with 512 records: the check, the stored page, and every record applied in its place.
     pub fn rebuild(&mut self) -> Result<String, String> {
-        let mut text = "| Records | Archive, µs | Twin, µs | Ratio | Middle half |\n|---|---|---|---|---|\n".to_string();
+        let mut text =
+            "| Records | Archive, µs | Twin, µs | Ratio | Middle half |\n|---|---|---|---|---|\n".to_string();
         let situations = rebuilds();
         let mut rounds = vec![Rounds::new(); situations.len()];
         for _ in 0..PASSES {

@@ -331,6 +331,32 @@ mod tests {
     }
 
     #[test]
+    fn the_rules_name_definitions_that_are_there() {
+        let root = std::path::Path::new(env!("CARGO_MANIFEST_DIR")).join("..");
+        let rules = include_str!("../../docs/RULES.md");
+        let (_, section) = rules.split_once("\n## 13 ").unwrap();
+        let (section, _) = section.split_once("\n## 14 ").unwrap();
+        let mut names = 0;
+        for row in section.lines().filter(|line| line.starts_with("| ") && line.contains("crates/")) {
+            let cells: Vec<_> = row.split('|').collect();
+            // Every spec file of the crates that the row names.
+            let specs: String = cells[2]
+                .split("crates/")
+                .skip(1)
+                .filter_map(|place| place.split('/').next())
+                .flat_map(|name| std::fs::read_dir(root.join("crates").join(name).join("specs")).unwrap())
+                .map(|file| std::fs::read_to_string(file.unwrap().path()).unwrap())
+                .collect();
+            for name in cells[3].split('`').skip(1).step_by(2) {
+                let declared = [format!("pub {name} "), format!("pub record {name} "), format!("pub data {name} ")];
+                assert!(declared.iter().any(|words| specs.contains(words)), "docs/RULES.md names {name}: {row}");
+                names += 1;
+            }
+        }
+        assert!(names > 50, "only {names} names were found");
+    }
+
+    #[test]
     fn nothing_lent_is_not_sound() {
         assert_eq!(broken(&Areas::none()), Clauses::only(Clause::Lengths));
         let sizes = Sizes { page_size: 512, pages: 1, frames: 1, online_size: 1, log_size: 1 };
