@@ -3,7 +3,7 @@
 use Prim.Native.Nat.{ℕ, _+_, _*_, _≤_, _<_, _^_}
 use native.Mathlib.Omega.{arith}
 use mathlib.Core.Path.{_≡_, refl, sym, ap, _∙_, subst}
-use mathlib.Core.Bool.{Bool, true, false, cond, not, _&&_, _||_, or-true, or-false, or-assoc, Bool·not-not}
+use mathlib.Core.Bool.{Bool, true, false, cond, not, _||_, or-true, Bool·not-not}
 use mathlib.Core.List.{List, [], _∷_, _++_, append-nil, append-assoc}
 use lib.ListN.{length, getD, set}
 use lib.Dec.{eqb}
@@ -29,7 +29,7 @@ use Rattle.seats.proofs.Places.{dirty-frame, dirty-dirty, placed-length, placed
 use Rattle.readback.proofs.Seen.{livesOf}
 use Rattle.readback.proofs.Pages.{page-length, page-same, page-other}
 use Rattle.readback.proofs.Lost.{entry-whole, length-rebuilt, length-fetched-pool, reads-read, reads-updated}
-use Rattle.keeps.proofs.Tests.{any-last, apart-row}
+use Rattle.keeps.proofs.Tests.{any-last}
 use Rattle.history.specs.Past.{Past, updates}
 use Rattle.history.proofs.Right.{Ground, LostRight, Right, aboveStamp, rowsOf, openOf, openRow}
 use Rattle.history.proofs.Settle.{settle}

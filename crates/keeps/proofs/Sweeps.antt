@@ -27,7 +27,7 @@ use Rattle.seats.proofs.Loops.{any-kept}
 use Rattle.readback.proofs.Seen.{Whole, whole}
 use Rattle.readback.proofs.Tables.{pagesBelow}
 use Rattle.readback.proofs.Lost.{reads-compacted, reads-closed}
-use Rattle.readback.proofs.Marks.{length-lowered}
+use Rattle.rules.proofs.Kept.{length-lowered}
 use Rattle.keeps.proofs.Tests.{every-all}
 use Rattle.keeps.proofs.Clauses.{sound-sized, sound-whole, sound-holds}
 

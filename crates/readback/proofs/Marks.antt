@@ -15,7 +15,7 @@ use Rattle.word.proofs.Tests.{and-both}
 use Rattle.record.specs.Part.{withPart}
 use Rattle.record.specs.Rows.{keep, consIf}
 use Rattle.record.specs.Record.{pageOf, numberOf, committed, committedOn, lesser, smallest}
-use Rattle.record.proofs.Laws.{num-part, either-length}
+use Rattle.record.proofs.Laws.{num-part}
 use Rattle.record.proofs.Parts.{length-with, getD-with-below, part-with}
 use Rattle.order.proofs.Laws.{blank-at}
 use Rattle.rules.specs.declared.Params.{Params}
@@ -24,8 +24,8 @@ use Rattle.rules.specs.Sound.{every, inRange}
 use Rattle.rules.specs.Steps.{owned, committing, foldable, lowered, droppedBy, closed, stamped, formatted}
 use Rattle.rules.proofs.Extremes.{numberAtMost, lesser-most}
 use Rattle.rules.proofs.Kept.{length-lowered}
-use Rattle.durable.specs.Ranges.{Ranged}
-use Rattle.durable.proofs.Laws.{ranged}
+use Rattle.rules.specs.Shape.{Ranged}
+use Rattle.rules.proofs.Ranges.{ranged}
 
 -- a number of 4 bytes where it was put
 here : (l : List ℕ) (at v : ℕ) → at + 4 ≤ length l → v ≤ 4294967295 → num 4 (put 4 l at v) at ≡ v
@@ -59,13 +59,6 @@ lowered-front pages (r ∷ rs) ms i h =
     let x : List ℕ = put 4 ms (dirtyAt pages (pageOf r)) v in
     let k : i + 4 ≤ dirtyAt pages (pageOf r) = omega arith in
     lowered-front pages rs (cond (committed r) x ms) i h ∙ num-pick (committed r) x ms i (num-put-below 4 4 ms (dirtyAt pages (pageOf r)) v i k)
-
--- a dirty number that is lowered leaves the length
-pub length-lowered : (pages : ℕ) (rs : List (List ℕ)) (ms : List ℕ) → length (lowered pages rs ms) ≡ length ms
-unfolding lowered
-length-lowered pages [] ms = refl
-length-lowered pages (r ∷ rs) ms =
-    length-lowered pages rs _ ∙ either-length (committed r) (length ms) _ ms (length-put 4 ms (dirtyAt pages (pageOf r)) (lesser (num 4 ms (dirtyAt pages (pageOf r))) (numberOf r))) refl
 
 -- a dirty number elsewhere than where one is written
 dirty-other : (pages : ℕ) (ms : List ℕ) (p q v : ℕ) → (q ≡ p → ⊥) → num 4 (put 4 ms (dirtyAt pages q) v) (dirtyAt pages p) ≡ num 4 ms (dirtyAt pages p)
