@@ -6,7 +6,7 @@ use mathlib.Core.Path.{_≡_, refl, sym, ap, _∙_, subst}
 use mathlib.Core.Bool.{Bool, true, false, not, _&&_, _||_}
 use mathlib.Core.List.{List, [], _∷_, _++_, append-assoc}
 use lib.ListN.{length, getD, take, drop, set, length-set}
-use lib.Seq.{sets-eq, drop-drop}
+use lib.Seq.{sets-eq, drop-drop, getD-drop}
 use lib.Dec.{eqb, leb}
 use borrow.Author.Tests.{eq-eqb, eqb-true, leb-true, le-leb, lt-leb}
 use Rattle.word.proofs.Tests.{and-both, among-four}
@@ -38,6 +38,18 @@ big-front v l h =
     let low : (n : ℕ) → n ≡ n / 256 * 256 + n % 256 = λ n. omega arith in
     let top : v / 256 / 256 / 256 ≡ v / 256 / 256 / 256 % 256 = omega arith in
     rw (e₁, e₂) (digits v (v / 256) (v / 256 / 256) (v / 256 / 256 / 256) _ _ _ _ (low v) (low (v / 256)) (low (v / 256 / 256)) top)
+
+-- a number behind the first bytes
+pub big-drop : (at k : ℕ) (l : List ℕ) → big (drop at l) k ≡ big l (at + k)
+unfolding big
+big-drop at k l =
+    let e₁ : at + (k + 1) ≡ at + k + 1 = omega arith in
+    let e₂ : at + (k + 2) ≡ at + k + 2 = omega arith in
+    let e₃ : at + (k + 3) ≡ at + k + 3 = omega arith in
+    rw (getD-drop at l k 0, getD-drop at l (k + 1) 0, getD-drop at l (k + 2) 0, getD-drop at l (k + 3) 0, e₁, e₂, e₃)
+
+pub big-at : (at : ℕ) (l : List ℕ) → big (drop at l) 0 ≡ big l at
+big-at at l = let e : at + 0 ≡ at = omega arith in big-drop at 0 l ∙ ap (λ (x : ℕ). big l x) e
 
 -- `sum::checksum_of`: a turn, and none left
 pub sum-turn : (page : List ℕ) (sum sum′ at b : ℕ) (total : ℕ) → 200 < at → b ≡ getD page (at - 200) 0 → sum′ ≡ (sum + b) % 2 ^ 32

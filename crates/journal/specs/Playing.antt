@@ -41,10 +41,13 @@ runOf size j = run (counted size j) (nonceOf j) size (bodyOf j)
 unfoldable pub toRestore : ℕ → List ℕ → List Saved
 toRestore size j = records (runOf size j .count) size (bodyOf j)
 
--- "page number 0 or beyond the lent set"
+-- "page number 0 or beyond the lent set"; one such at least
+abbrev pub isOutside : ℕ → ℕ → Bool
+isOutside pages number = eqb number 0 || ltb pages number
+
 unfoldable pub outside : ℕ → List Saved → Bool
 outside pages [] = false
-outside pages (r ∷ rs) = (eqb (r .number) 0 || ltb pages (r .number)) || outside pages rs
+outside pages (r ∷ rs) = isOutside pages (r .number) || outside pages rs
 
 -- the pages with one of them restored; with several, in their order
 unfoldable pub withSaved : ℕ → Saved → List ℕ → List ℕ

@@ -1,0 +1,3 @@
+-- The laws that the proofs of `journalplay` cite.
+pub mod Looks
+pub mod Restores
