@@ -1,0 +1,3 @@
+-- What the contracts of `waljudge` cite.
+pub mod Pass
+pub mod Judge
