@@ -1,7 +1,7 @@
 -- Numbers in SQLite's write-ahead log, and the running sums over it.
-use Prim.Native.Nat.{ℕ, zero, suc, _+_, _*_, _%_, _^_}
+use Prim.Native.Nat.{ℕ, zero, suc, _+_, _*_, _/_, _%_, _^_}
 use mathlib.Core.Bool.{Bool, cond}
-use mathlib.Core.List.{List}
+use mathlib.Core.List.{List, [], _∷_, _++_}
 use lib.ListN.{getD}
 use Rattle.word.specs.Word.{num}
 use Rattle.wal.specs.declared.Sums.{Sums}
@@ -9,6 +9,15 @@ use Rattle.wal.specs.declared.Sums.{Sums}
 -- a field: the number that four bytes hold, highest byte first
 unfoldable pub field : List ℕ → ℕ → ℕ
 field l at = getD l at 0 * 16777216 + getD l (at + 1) 0 * 65536 + getD l (at + 2) 0 * 256 + getD l (at + 3) 0
+
+-- the bytes of a field
+abbrev pub bytesOf : ℕ → List ℕ
+bytesOf v = v / 16777216 % 256 ∷ v / 65536 % 256 ∷ v / 256 % 256 ∷ v % 256 ∷ []
+
+-- fields, one behind the other
+unfoldable pub fieldsOf : List ℕ → List ℕ
+fieldsOf [] = []
+fieldsOf (v ∷ vs) = bytesOf v ++ fieldsOf vs
 
 -- the same four bytes as a word to be summed: highest byte first, or lowest
 unfoldable pub wordAt : Bool → List ℕ → ℕ → ℕ

@@ -72,6 +72,7 @@ at-passed page size (f ∷ fs) a = at-passed page size fs (taken page size f a) 
   where
     pend : ℕ
     pend = cond (eqb (f .page) page) (f .place) (a .pending)
+
     go : (x y : Bool) → any isCommit fs ≡ y → cond y (lastPlace (isOf page) pend (upToCommit fs)) (cond x (a .at) pend) ≡ cond (not x || y) (lastPlace (isOf page) (a .pending) (cond (not x || y) (f ∷ upToCommit fs) [])) (a .at)
     go true true e = refl
     go true false e = refl

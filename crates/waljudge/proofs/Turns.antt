@@ -11,43 +11,14 @@ use Rattle.wal.specs.declared.Sums.{Sums}
 use Rattle.wal.specs.declared.Header.{Header}
 use Rattle.wal.specs.declared.Seen.{Seen}
 use Rattle.wal.specs.declared.Seen.the-variants.{Valid, Stop}
-use Rattle.wal.specs.Sum.{field}
-use Rattle.wal.specs.Layout.{Frame, frameSize, frameSums, isValid, seen, frameAt, framesFrom}
+use Rattle.wal.specs.Layout.{Frame, frameSize, isValid, seen, frameAt, framesFrom}
+use Rattle.wal.proofs.Frames.{stop-part, more, none}
 use Rattle.waljudge.specs.declared.Pass.{Pass}
 use Rattle.waljudge.specs.Pass.{taken, passed}
-
--- what a look says
-valid-parts : (h : Header) (s s′ : Sums) (f : List ℕ) (p n : ℕ) → seen h s f ≡ Valid p n s′ → (isValid h s f ≡ true) × (field f 0 ≡ p) × (field f 4 ≡ n) × (frameSums h s f ≡ s′)
-unfolding seen
-valid-parts h s s′ f p n = go (isValid h s f) refl
-  where
-    go : (b : Bool) → isValid h s f ≡ b → cond b (Valid (field f 0) (field f 4) (frameSums h s f)) Stop ≡ Valid p n s′ → (isValid h s f ≡ true) × (field f 0 ≡ p) × (field f 4 ≡ n) × (frameSums h s f ≡ s′)
-    go true e k = (e, cc, cc, cc)
-    go false e k = let z : _≡_ {A = ℕ} 0 1 = cc in absurd (omega arith)
-
-stop-part : (h : Header) (s : Sums) (f : List ℕ) → seen h s f ≡ Stop → isValid h s f ≡ false
-unfolding seen
-stop-part h s f = go (isValid h s f) refl
-  where
-    go : (b : Bool) → isValid h s f ≡ b → cond b (Valid (field f 0) (field f 4) (frameSums h s f)) Stop ≡ Stop → isValid h s f ≡ false
-    go true e k = let z : _≡_ {A = ℕ} 0 1 = cc in absurd (omega arith)
-    go false e k = e
 
 -- the part that is lent
 lent-part : (at w : ℕ) (l : List ℕ) → take (at + w - at) (drop at l) ≡ take w (drop at l)
 lent-part at w l = let e : at + w - at ≡ w = omega arith in ap (λ (k : ℕ). take k (drop at l)) e
-
--- one frame more
-more : (h : Header) (l : List ℕ) (k at p n : ℕ) (s s′ : Sums) → at + frameSize h ≤ length l → seen h s (frameAt h l at) ≡ Valid p n s′ → framesFrom h l (suc k) at s ≡ record { page = p; commit = n; place = at + 24 } ∷ framesFrom h l k (at + frameSize h) s′
-unfolding framesFrom
-more h l k at p n s s′ fits e =
-    let v = valid-parts h s s′ (frameAt h l at) p n e in
-    rw (le-leb (at + frameSize h) (length l) fits, v .0, v .1, v .2, v .3)
-
-none : (h : Header) (l : List ℕ) (k at : ℕ) (s : Sums) → (leb (at + frameSize h) (length l) && isValid h s (frameAt h l at)) ≡ false → framesFrom h l k at s ≡ []
-unfolding framesFrom
-none h l zero at s e = refl
-none h l (suc k) at s e = rw e
 
 pub turn : (page : ℕ) (h : Header) (l : List ℕ) (at p n : ℕ) (s s′ : Sums) (a a′ t : Pass) (r : Seen) → a .frames < at → at ≤ length l → 24 + h .size ≤ length l - at → r ≡ seen h s (take (at + (24 + h .size) - at) (drop at l)) → r ≡ Valid p n s′ → a′ ≡ taken page (h .size) (record { page = p; commit = n; place = at + 24 }) a → passed page (h .size) (framesFrom h l (length l - a .frames) at s) a ≡ t → passed page (h .size) (framesFrom h l (length l - a′ .frames) (at + (24 + h .size)) s′) a′ ≡ t
 unfolding passed taken
@@ -57,7 +28,7 @@ turn page h l at p n s s′ a a′ t r few whole fits er ev ea inv =
     let m : length l - a .frames ≡ suc (length l - a′ .frames) = omega arith in
     let e : seen h s (frameAt h l at) ≡ Valid p n s′ = ap (λ (x : List ℕ). seen h s x) (sym (lent-part at (24 + h .size) l)) ∙ sym er ∙ ev in
     let g : framesFrom h l (length l - a .frames) at s ≡ f ∷ framesFrom h l (length l - a′ .frames) (at + frameSize h) s′ =
-        ap (λ (x : ℕ). framesFrom h l x at s) m ∙ more h l (length l - a′ .frames) at p n s s′ (omega arith) e
+    ap (λ (x : ℕ). framesFrom h l x at s) m ∙ more h l (length l - a′ .frames) at p n s s′ (omega arith) e
     in
     ap (λ (x : Pass). passed page (h .size) (framesFrom h l (length l - a′ .frames) (at + frameSize h) s′) x) ea
     ∙ sym (ap (λ (x : List Frame). passed page (h .size) x a) g)
