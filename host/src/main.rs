@@ -16,6 +16,12 @@ mod damage;
 mod fence;
 mod flash;
 mod history;
+mod journal;
+mod journal_run;
+mod journal_wrong;
+mod layouts;
+#[cfg(any(archive_journal, archive_wal))]
+mod layouts_archive;
 mod ledger;
 mod machine;
 mod pair;
@@ -27,6 +33,9 @@ mod session;
 mod sound;
 mod states;
 mod twin;
+mod wal;
+mod wal_run;
+mod wal_wrong;
 mod wrong;
 
 use calls::Store;
@@ -71,6 +80,8 @@ fn usage() -> ExitCode {
          \x20      ventarico-host fences [percent] [seed]  damage and sessions on slices between fences (default 100)\n\
          \x20      ventarico-host pairs [calls] [seed]     pairs of stores with the same transactions (default {})\n\
          \x20      ventarico-host wrong [seed]             wrong stores, each of which must be caught\n\
+         \x20      ventarico-host journal [percent] [seed] rollback journals, played and written (default 100)\n\
+         \x20      ventarico-host wal [percent] [seed]     write-ahead logs, written and judged (default 100)\n\
          \x20      ventarico-host coverage [calls] [seed]  sessions and damage, then what they have shown\n\
          \x20      ventarico-host all [calls] [seed]       all of these\n\
          \x20      ventarico-host bench WHAT [FILE]        calls, growth, ledger, flash or quick; see host/bench",
@@ -112,6 +123,10 @@ fn main() -> ExitCode {
             (0, 1)
         }
         (Some("wrong"), 0..=1) => wrong(only_seed),
+        (Some("wal"), 0) => layouts::wal(100, seed),
+        (Some("wal"), 1..=2) => layouts::wal(numbers[0], seed),
+        (Some("journal"), 0) => layouts::journal(100, seed),
+        (Some("journal"), 1..=2) => layouts::journal(numbers[0], seed),
         (Some("coverage"), 0..=2) => {
             let parts = [
                 sessions(&Tested {}, calls, seed, &mut coverage),
@@ -128,6 +143,8 @@ fn main() -> ExitCode {
                 fences(100, seed),
                 pairs(calls / PAIRS_PART, seed),
                 wrong(seed),
+                layouts::journal(100, seed),
+                layouts::wal(100, seed),
                 covered(&coverage),
             ];
             sum(&parts)
