@@ -14,7 +14,7 @@ fn main() {
         println!("cargo::rustc-cfg=archive");
         // An archive names what its members export in plain bytes.
         let bytes = std::fs::read(&archive).unwrap_or_default();
-        for (symbol, part) in [("ventarico_journal_play", "archive_journal"), ("ventarico_wal_judge", "archive_wal")] {
+        for (symbol, part) in [("ventarico_journal_play", "archive_journal"), ("ventarico_wal_write", "archive_wal")] {
             if bytes.windows(symbol.len()).any(|window| window == symbol.as_bytes()) {
                 println!("cargo::rustc-cfg={part}");
             }

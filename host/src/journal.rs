@@ -178,9 +178,8 @@ impl Journal for Second {
 
     fn write(&self, pages: &[u8], list: &[u32], target: &mut [u8], page_size: u32, nonce: u32, sector: u32) -> Reply {
         let size = page_size as usize;
-        // No page is among the lent ones if pages have no size.
-        let lent = pages.len().checked_div(size).unwrap_or(0);
-        if list.iter().any(|&page| page as usize >= lent) {
+        // A page is lent if its last byte is; so one of no size always is, and what is wrong then is that size.
+        if list.iter().any(|&page| (page as usize + 1) * size > pages.len()) {
             return Reply::refused(BAD_PAGE);
         }
         if !is_page_size(page_size) || !is_sector(sector) {
@@ -196,7 +195,8 @@ impl Journal for Second {
         if list.is_empty() {
             return Reply::refused(EMPTY_LIST);
         }
-        let header = Header { count: list.len() as u32, nonce, size_in_pages: lent as u32, sector, page_size };
+        let size_in_pages = (pages.len() / size) as u32;
+        let header = Header { count: list.len() as u32, nonce, size_in_pages, sector, page_size };
         target[..HEADER].copy_from_slice(&header.bytes());
         target[HEADER..sector as usize].fill(0);
         let records = target[sector as usize..whole].chunks_exact_mut(size + BESIDE_PAGE);

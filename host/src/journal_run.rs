@@ -371,8 +371,11 @@ fn cases_of_writing(t: &mut Trial) -> Outcome {
             refused(26),
         )?;
     }
-    for page_size in [0, 1 << 31, u32::MAX] {
-        t.must_write("no page size, so none is lent", &of(&|a| a.page_size = page_size), refused(20))?;
+    t.must_write("page size 0: no page is too far", &of(&|a| a.page_size = 0), refused(26))?;
+    for page_size in [513, 768, 4096, 1 << 31, u32::MAX] {
+        t.must_write("a page size by which none of them is lent", &of(&|a| a.page_size = page_size), refused(20))?;
+    }
+    for page_size in [0, 513, 1 << 31, u32::MAX] {
         t.must_write(
             "no page size, no page listed",
             &of(&|a| {

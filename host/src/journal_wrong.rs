@@ -211,7 +211,7 @@ impl Journal for Wrong {
 
     fn write(&self, pages: &[u8], list: &[u32], target: &mut [u8], page_size: u32, nonce: u32, sector: u32) -> Reply {
         let size = page_size as usize;
-        let lent = if size == 0 { 0 } else { pages.len() / size };
+        let lent = if size == 0 { usize::MAX } else { pages.len() / size };
         let page = list.iter().any(|&page| page as usize >= lent);
         let parameter = !is_page_size(page_size) || !self.sector_taken(sector);
         let length = !self.length_taken(pages.len(), size);
