@@ -2,7 +2,10 @@
 //! Without it everything builds and runs all the same, on the second program alone; and so do SQLite's two layouts
 //! where the archive does not have them.
 
+use std::process::Command;
+
 fn main() {
+    plain();
     println!("cargo::rustc-check-cfg=cfg(archive, archive_journal, archive_wal)");
     println!("cargo::rerun-if-env-changed=VENTARICO_ARCHIVE_DIR");
     println!("cargo::rerun-if-changed=build.rs");
@@ -20,4 +23,20 @@ fn main() {
             }
         }
     }
+}
+
+/// The plain C whose speed the library's is measured by. The compiler is the one that links this program anyhow.
+fn plain() {
+    println!("cargo::rerun-if-changed=plain/wal.c");
+    let out = std::env::var("OUT_DIR").expect("cargo says where to put it");
+    let (object, archive) = (format!("{out}/wal.o"), format!("{out}/libplain.a"));
+    let made = |command: &mut Command| command.status().is_ok_and(|status| status.success());
+    let compiled =
+        made(Command::new("cc").args(["-std=c11", "-O2", "-Wall", "-Wextra", "-c", "plain/wal.c", "-o", &object]));
+    assert!(
+        compiled && made(Command::new("ar").args(["rcs", &archive, &object])),
+        "cc or ar has failed on plain/wal.c"
+    );
+    println!("cargo::rustc-link-search=native={out}");
+    println!("cargo::rustc-link-lib=static=plain");
 }

@@ -47,6 +47,27 @@ fn logs() -> Subjects<dyn wal::Wal> {
     vec![("THE SECOND PROGRAM ALONE: no archive with a write-ahead log was linked", Box::new(wal::Second))]
 }
 
+/// The library's logs where they are linked, without fences: for its speed and for the desk.
+#[cfg(archive_wal)]
+pub fn log_writer() -> &'static dyn wal::Wal {
+    &crate::layouts_archive::Direct
+}
+
+#[cfg(not(archive_wal))]
+pub fn log_writer() -> &'static dyn wal::Wal {
+    &wal::Second
+}
+
+#[cfg(archive_journal)]
+pub fn journal_player() -> &'static dyn journal::Journal {
+    &crate::layouts_archive::Direct
+}
+
+#[cfg(not(archive_journal))]
+pub fn journal_player() -> &'static dyn journal::Journal {
+    &journal::Second
+}
+
 /// Counts what was tried: a line for each phase of each subject.
 struct Count {
     passed: u64,

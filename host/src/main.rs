@@ -9,10 +9,12 @@ mod areas;
 mod bench;
 mod bench_stores;
 mod bench_tables;
+mod bench_wal;
 mod calls;
 mod cases;
 mod coverage;
 mod damage;
+mod desk;
 mod fence;
 mod flash;
 mod history;
@@ -84,7 +86,11 @@ fn usage() -> ExitCode {
          \x20      ventarico-host wal [percent] [seed]     write-ahead logs, written and judged (default 100)\n\
          \x20      ventarico-host coverage [calls] [seed]  sessions and damage, then what they have shown\n\
          \x20      ventarico-host all [calls] [seed]       all of these\n\
-         \x20      ventarico-host bench WHAT [FILE]        calls, growth, ledger, flash or quick; see host/bench",
+         \x20      ventarico-host bench WHAT [FILE]        calls, growth, ledger, flash, wal or quick; see host/bench\n\
+         \n\
+         for the service desk:\n\
+         \x20      ventarico-host wal-judge FILE                  a write-ahead log: frames, commits, where it stops and why\n\
+         \x20      ventarico-host journal-play JOURNAL DATABASE   plays a rollback journal over a database file",
         CALLS / PAIRS_PART
     );
     ExitCode::from(2)
@@ -94,6 +100,9 @@ fn main() -> ExitCode {
     let words: Vec<String> = std::env::args().skip(1).collect();
     if words.first().is_some_and(|word| word == "bench") {
         return bench_tables::command(&Tested {}, LINKED, &words[1..]).unwrap_or_else(usage);
+    }
+    if let Some(ended) = desk::command(&words) {
+        return ended;
     }
     let Some(numbers) =
         words.iter().skip(1).map(|word| word.replace('_', "").parse().ok()).collect::<Option<Vec<u64>>>()

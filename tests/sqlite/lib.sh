@@ -63,7 +63,7 @@ logged() { # KIND NAME PAGE-SIZE
         killed_after "$2.db" "$first" "$CHANGES" ;;
     several) # four of them; rows come and go, so that the database grows
         killed_after "$2.db" "$first" "UPDATE usage SET charge = 7 WHERE id = 3;" "$CHANGES" "DELETE FROM usage WHERE id < 9;" \
-            "INSERT INTO usage SELECT id + 100, app || id, charge FROM usage;" ;;
+            "INSERT INTO usage SELECT id + 100, app || printf('%.*c', $3 / 12, 'y'), charge FROM usage;" ;;
     tail) # one transaction, then one that has left the cache and was not committed: its frames are valid
         killed_after "$2.db" "$first" "PRAGMA cache_size=1;" "UPDATE usage SET charge = 7 WHERE id = 3;" "BEGIN;" \
             "UPDATE usage SET app = 'q' WHERE id = 4;" "CREATE TABLE more(bytes);" "INSERT INTO more VALUES(zeroblob(3 * $3));" ;;
