@@ -23,6 +23,8 @@ const MAY_NOTHING: i32 = 0;
 const MAY_READ: i32 = 1;
 const MAY_READ_AND_WRITE: i32 = 3;
 const PRIVATE_AND_OF_NO_FILE: i32 = 0x22;
+/// No memory is set aside before it is written.
+const NOT_RESERVED: i32 = 0x4000;
 const SEGMENTATION_FAULT: i32 = 11;
 const BUS_ERROR: i32 = 7;
 /// The handler is told the address.
@@ -160,6 +162,23 @@ fn new_room() -> *mut u8 {
         assert!(mprotect(room, ROOM, MAY_READ_AND_WRITE) == 0, "a room could not be opened");
         room
     }
+}
+
+/// That many zero bytes, more than there may be memory for: only those that are written take some. None where the system
+/// has no room for the addresses. They are never given back.
+pub fn vast(length: usize) -> Option<&'static mut [u8]> {
+    let flags = PRIVATE_AND_OF_NO_FILE | NOT_RESERVED;
+    // Safe: new memory at no place that is asked for, open as a whole.
+    unsafe {
+        let start = mmap(std::ptr::null_mut(), length, MAY_READ_AND_WRITE, flags, -1, 0);
+        (start as isize != -1).then(|| std::slice::from_raw_parts_mut(start, length))
+    }
+}
+
+/// The same for numbers, all of them 0.
+pub fn vast_list(length: usize) -> Option<&'static [u32]> {
+    // Safe: the bytes are zero, nobody else's, and aligned to a page.
+    vast(4 * length).map(|bytes| unsafe { std::slice::from_raw_parts(bytes.as_ptr().cast(), length) })
 }
 
 /// Allows so much of the pages on which the slice stands.

@@ -3,7 +3,8 @@
 //! and played back.
 
 use crate::areas::Lent;
-use crate::journal::{self, Header, Journal, Reply, Second, ALL, HEADER};
+use crate::fence;
+use crate::journal::{self, put, Header, Journal, Reply, Second, ALL, HEADER};
 use crate::random::Random;
 
 /// A journal under test: every call is compared, and its guards are looked at.
@@ -29,6 +30,9 @@ pub const PHASES: &[(&str, Phase)] = &[
     ("written, changed, played back", back_and_forth),
 ];
 
+/// For a subject that is lent the bytes themselves: no copy could be made.
+pub const LARGE: (&str, Phase) = ("slices longer than 32 bits can say", longer_than_32_bits);
+
 /// Runs a phase on the subject. Gives how many calls were compared.
 pub fn run(subject: &dyn Journal, phase: Phase, seed: u64, percent: u64) -> Result<u64, String> {
     let mut trial = Trial { subject, random: Random::new(seed), percent, calls: 0 };
@@ -38,6 +42,15 @@ pub fn run(subject: &dyn Journal, phase: Phase, seed: u64, percent: u64) -> Resu
 impl Trial<'_> {
     fn rounds(&self, full: u64) -> u64 {
         (full * self.percent / 100).max(1)
+    }
+
+    /// Of the flips and cuts a hundredth is an odd number apart, so that every bit of a byte has its turn.
+    fn step(&self) -> usize {
+        if self.percent >= 5 {
+            1
+        } else {
+            101
+        }
     }
 
     /// Plays on a copy of the pages, compares with the second program, and gives what came out.
@@ -457,14 +470,15 @@ fn smallest(count: u32) -> (Vec<u8>, Vec<u8>) {
 }
 
 fn flips(t: &mut Trial) -> Outcome {
+    let step = t.step();
     for count in [2, ALL, 3] {
         let (whole, pages) = smallest(count);
-        for (i, bit) in (0..whole.len()).flat_map(|i| (0..8).map(move |bit| (i, bit))) {
+        for (i, bit) in (0..whole.len()).flat_map(|i| (0..8).map(move |bit| (i, bit))).step_by(step) {
             let mut flipped = whole.clone();
             flipped[i] ^= 1 << bit;
             t.play(&flipped, &pages, 512).map_err(|why| format!("byte {i}, bit {bit} flipped: {why}"))?;
         }
-        for (i, byte) in (0..whole.len()).flat_map(|i| [0, 255].map(|byte| (i, byte))) {
+        for (i, byte) in (0..whole.len()).flat_map(|i| [0, 255].map(|byte| (i, byte))).step_by(step) {
             let mut other = whole.clone();
             other[i] = byte;
             t.play(&other, &pages, 512).map_err(|why| format!("byte {i} set to {byte}: {why}"))?;
@@ -476,7 +490,7 @@ fn flips(t: &mut Trial) -> Outcome {
 fn cuts(t: &mut Trial) -> Outcome {
     for count in [2, ALL, 1, 3] {
         let (whole, pages) = smallest(count);
-        for length in 0..=whole.len() {
+        for length in (0..=whole.len()).step_by(t.step()) {
             let (reply, _) = t.play(&whole[..length], &pages, 512)?;
             let held = length.saturating_sub(32) / 520;
             let right = match length {
@@ -636,4 +650,45 @@ fn back_and_forth(t: &mut Trial) -> Outcome {
         }
     }
     Ok(())
+}
+
+/// Lengths of 2^32 and a little: whoever keeps 32 bits of them sees that little.
+fn longer_than_32_bits(t: &mut Trial) -> Outcome {
+    const VAST: usize = 1 << 32;
+    let (whole, pages) = smallest(2);
+    let Some(vast) = fence::vast(VAST + 4096) else { return Err("the system has no 4 GiB of addresses".to_string()) };
+    let mut answers = Vec::new();
+    let mut asked = |name: &'static str, got: Reply, right: Reply| {
+        answers.push((got == right).then_some(()).ok_or(format!("{name}: expected {right}, got {got}")));
+    };
+    for (length, name) in
+        [(0, "2^32 bytes of journal"), (40, "2^32 and 40 bytes"), (32 + 520, "2^32 bytes and a record")]
+    {
+        vast[..whole.len()].copy_from_slice(&whole);
+        let mut pages = pages.clone();
+        asked(name, t.subject.play(&vast[..VAST + length], &mut pages, 512), Reply::done(0, 2));
+        // All ones: the zeros behind the two are a record whose checksum is wrong.
+        put(vast, 8, ALL);
+        asked(name, t.subject.play(&vast[..VAST + length], &mut pages, 512), Reply::done(2, 2));
+        vast[..whole.len()].fill(0);
+        asked(name, t.subject.write(&pages, &[1], &mut vast[..VAST + length], 512, 7, 32), Reply::done(0, 1));
+        vast[..whole.len()].fill(0);
+    }
+    for length in [0, 512, 3 * 512] {
+        asked("2^32 bytes of pages", t.subject.play(&whole, &mut vast[..VAST + length], 512), Reply::refused(27));
+        let mut target = vec![0; 4000];
+        let got = t.subject.write(&vast[..VAST + length], &[0], &mut target, 512, 7, 32);
+        asked("2^32 bytes of pages, written", got, Reply::refused(27));
+    }
+    // 2^30 numbers are 2^32 bytes.
+    let list = fence::vast_list(VAST / 4 + 1);
+    if let Some(list) = list {
+        let mut target = vec![0; 4000];
+        for length in [VAST / 4, VAST / 4 + 1] {
+            let got = t.subject.write(&pages, &list[..length], &mut target, 512, 7, 32);
+            asked("2^30 pages listed", got, Reply::refused(14));
+        }
+    }
+    t.calls += answers.len() as u64;
+    answers.into_iter().collect()
 }

@@ -83,6 +83,8 @@ lies! {
     SizeOfList,
     /// a target that just fits is refused
     WantsMore,
+    /// lengths are kept in 32 bits
+    ThirtyTwoBits,
 }
 
 pub struct Wrong(pub Lie);
@@ -90,6 +92,15 @@ pub struct Wrong(pub Lie);
 impl Wrong {
     fn is(&self, lie: Lie) -> bool {
         self.0 == lie
+    }
+
+    /// How much of a slice it sees.
+    fn seen(&self, length: usize) -> usize {
+        if self.is(Lie::ThirtyTwoBits) {
+            length as u32 as usize
+        } else {
+            length
+        }
     }
 
     fn checksum(&self, nonce: u32, page: &[u8]) -> u32 {
@@ -124,6 +135,9 @@ impl Wrong {
 
 impl Journal for Wrong {
     fn play(&self, journal: &[u8], pages: &mut [u8], page_size: u32) -> Reply {
+        let journal = &journal[..self.seen(journal.len())];
+        let seen = self.seen(pages.len());
+        let pages = &mut pages[..seen];
         let size = page_size as usize;
         let (parameter, length) = (!is_page_size(page_size), !self.length_taken(pages.len(), size));
         let header = self.header_refused(journal, page_size);
@@ -210,6 +224,8 @@ impl Journal for Wrong {
     }
 
     fn write(&self, pages: &[u8], list: &[u32], target: &mut [u8], page_size: u32, nonce: u32, sector: u32) -> Reply {
+        let (pages, seen) = (&pages[..self.seen(pages.len())], self.seen(target.len()));
+        let (list, target) = (&list[..self.seen(4 * list.len()) / 4], &mut target[..seen]);
         let size = page_size as usize;
         let lent = if size == 0 { usize::MAX } else { pages.len() / size };
         let page = list.iter().any(|&page| page as usize >= lent);

@@ -9,7 +9,7 @@ use crate::wal;
 use crate::wal_run;
 use crate::wal_wrong;
 
-/// A part of the rounds is enough to catch a wrong one.
+/// A part of the rounds is enough to catch a wrong one. A run of less than that is about the library alone.
 const WRONG_PERCENT: u64 = 5;
 
 /// What is tested: a name, and how it is called.
@@ -118,18 +118,26 @@ impl Count {
 pub fn journal(percent: u64, seed: u64) -> (u64, u64) {
     println!("\njournal: rollback journals, seed {seed}");
     let mut count = Count::new("journal");
-    let mut on = |name: &str, subject: &dyn journal::Journal, percent: u64| {
+    let on = |count: &mut Count, name: &str, subject: &dyn journal::Journal, percent: u64| {
         println!("  {name}");
         for (phase, run) in journal_run::PHASES {
             count.phase(phase, journal_run::run(subject, *run, seed, percent));
         }
     };
-    journals().iter().for_each(|(name, subject)| on(name, &**subject, percent));
-    on("the wrong ones without their lies", &journal_wrong::Wrong(journal_wrong::Lie::None), WRONG_PERCENT);
+    journals().iter().for_each(|(name, subject)| on(&mut count, name, &**subject, percent));
+    if percent < WRONG_PERCENT {
+        return count.end("journal");
+    }
+    println!("  the first of these once more");
+    let (large, run_large) = journal_run::LARGE;
+    count.phase(large, journal_run::run(journal_player(), run_large, seed, percent));
+    on(&mut count, "the wrong ones without their lies", &journal_wrong::Wrong(journal_wrong::Lie::None), WRONG_PERCENT);
     println!("  wrong ones, each of which must be caught");
     for (lie, said) in journal_wrong::LIES {
         let wrong = journal_wrong::Wrong(*lie);
-        let phases = journal_run::PHASES.iter();
+        // What is large takes long, and only one lie is about it.
+        let large = Some(&journal_run::LARGE).filter(|_| *lie == journal_wrong::Lie::ThirtyTwoBits);
+        let phases = journal_run::PHASES.iter().chain(large);
         let caught = phases.filter(|(_, run)| journal_run::run(&wrong, *run, seed, WRONG_PERCENT).is_err());
         count.lie(said.trim(), &caught.map(|(phase, _)| *phase).collect::<Vec<_>>());
     }
@@ -139,18 +147,26 @@ pub fn journal(percent: u64, seed: u64) -> (u64, u64) {
 pub fn wal(percent: u64, seed: u64) -> (u64, u64) {
     println!("\nwal: write-ahead logs, seed {seed}");
     let mut count = Count::new("wal");
-    let mut on = |name: &str, subject: &dyn wal::Wal, percent: u64| {
+    let on = |count: &mut Count, name: &str, subject: &dyn wal::Wal, percent: u64| {
         println!("  {name}");
         for (phase, run) in wal_run::PHASES {
             count.phase(phase, wal_run::run(subject, *run, seed, percent));
         }
     };
-    logs().iter().for_each(|(name, subject)| on(name, &**subject, percent));
-    on("the wrong ones without their lies", &wal_wrong::Wrong(wal_wrong::Lie::None), WRONG_PERCENT);
+    logs().iter().for_each(|(name, subject)| on(&mut count, name, &**subject, percent));
+    if percent < WRONG_PERCENT {
+        return count.end("wal");
+    }
+    println!("  the first of these once more");
+    let (large, run_large) = wal_run::LARGE;
+    count.phase(large, wal_run::run(log_writer(), run_large, seed, percent));
+    on(&mut count, "the wrong ones without their lies", &wal_wrong::Wrong(wal_wrong::Lie::None), WRONG_PERCENT);
     println!("  wrong ones, each of which must be caught");
     for (lie, said) in wal_wrong::LIES {
         let wrong = wal_wrong::Wrong(*lie);
-        let phases = wal_run::PHASES.iter();
+        // What is large takes long, and only one lie is about it.
+        let large = Some(&wal_run::LARGE).filter(|_| *lie == wal_wrong::Lie::ThirtyTwoBits);
+        let phases = wal_run::PHASES.iter().chain(large);
         let caught = phases.filter(|(_, run)| wal_run::run(&wrong, *run, seed, WRONG_PERCENT).is_err());
         count.lie(said.trim(), &caught.map(|(phase, _)| *phase).collect::<Vec<_>>());
     }

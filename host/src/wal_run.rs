@@ -4,6 +4,7 @@
 
 use crate::areas::{Areas, Lent, Reply, Sizes};
 use crate::calls::{Call, Store};
+use crate::fence;
 use crate::journal::{get, put};
 use crate::random::Random;
 use crate::states;
@@ -34,6 +35,9 @@ pub const PHASES: &[(&str, Phase)] = &[
     ("stores that are not sound", not_sound),
 ];
 
+/// For a subject that is lent the bytes themselves: no copy could be made.
+pub const LARGE: (&str, Phase) = ("slices longer than 32 bits can say", longer_than_32_bits);
+
 /// Runs a phase on the subject. Gives how many calls were compared.
 pub fn run(subject: &dyn Wal, phase: Phase, seed: u64, percent: u64) -> Result<u64, String> {
     let mut trial = Trial { subject, random: Random::new(seed), percent, calls: 0 };
@@ -43,6 +47,15 @@ pub fn run(subject: &dyn Wal, phase: Phase, seed: u64, percent: u64) -> Result<u
 impl Trial<'_> {
     fn rounds(&self, full: u64) -> u64 {
         (full * self.percent / 100).max(1)
+    }
+
+    /// Of the flips and cuts a hundredth is an odd number apart, so that every bit of a byte has its turn.
+    fn step(&self) -> usize {
+        if self.percent >= 5 {
+            1
+        } else {
+            101
+        }
     }
 
     fn judge(&mut self, file: &[u8]) -> Result<Judged, String> {
@@ -495,7 +508,7 @@ fn smallest(given: Given) -> Made {
 fn flips(t: &mut Trial) -> Outcome {
     for given in GIVEN {
         let whole = smallest(given).bytes();
-        for (i, bit) in (0..whole.len()).flat_map(|i| (0..8).map(move |bit| (i, bit))) {
+        for (i, bit) in (0..whole.len()).flat_map(|i| (0..8).map(move |bit| (i, bit))).step_by(t.step()) {
             let mut flipped = whole.clone();
             flipped[i] ^= 1 << bit;
             let got = t.judge(&flipped).map_err(|why| format!("byte {i}, bit {bit} flipped: {why}"))?;
@@ -519,7 +532,7 @@ fn flips(t: &mut Trial) -> Outcome {
 fn cuts(t: &mut Trial) -> Outcome {
     for given in GIVEN {
         let whole = smallest(given).bytes();
-        for length in 0..=whole.len() {
+        for length in (0..=whole.len()).step_by(t.step()) {
             let frames = (length as u64).saturating_sub(32) / 536;
             let right = match frames {
                 _ if length < 32 => refused(16),
@@ -684,6 +697,41 @@ fn not_sound(t: &mut Trial) -> Outcome {
         area[at] ^= 1 << r.below(8);
         let given = Given { order: r.below(2), ..GIVEN[0] };
         t.write(&store, &[1, 3], &target, &given).map_err(|why| format!("round {round}: {why}"))?;
+    }
+    Ok(())
+}
+
+/// Lengths of 2^32 and a little: whoever keeps 32 bits of them sees that little.
+fn longer_than_32_bits(t: &mut Trial) -> Outcome {
+    const VAST: usize = 1 << 32;
+    let whole = smallest(GIVEN[0]).bytes();
+    let Some(vast) = fence::vast(VAST + 4096) else { return Err("the system has no 4 GiB of addresses".to_string()) };
+    let store = small_store();
+    for length in [0, 31, 40, 568] {
+        vast[..whole.len()].copy_from_slice(&whole);
+        // The zeros behind have other salts.
+        let file = &vast[..VAST + length];
+        let (judged, page) = (t.subject.judge(file), t.subject.find(file, 2));
+        if judged != accepted(3, 32 + 3 * 536) || page != found(at(2)) {
+            return Err(format!("2^32 and {length} bytes: {judged}, page 2 {page}"));
+        }
+        vast[..whole.len()].fill(0);
+        let reply = t.subject.write(&store, &[3], &mut vast[..VAST + length], &GIVEN[0]);
+        if reply != Reply::done(1, 0, 0) {
+            return Err(format!("a target of 2^32 and {length} bytes: {reply}"));
+        }
+        vast[..568].fill(0);
+        t.calls += 3;
+    }
+    // 2^30 numbers are 2^32 bytes.
+    if let Some(list) = fence::vast_list(VAST / 4 + 1) {
+        for length in [VAST / 4, VAST / 4 + 1] {
+            let reply = t.subject.write(&store, &list[..length], &mut [0; 4000], &GIVEN[0]);
+            t.calls += 1;
+            if reply != Reply::refused(14) {
+                return Err(format!("{length} pages listed: {reply}"));
+            }
+        }
     }
     Ok(())
 }

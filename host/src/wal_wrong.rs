@@ -109,6 +109,8 @@ lies! {
     ReadsOnce,
     /// target bytes past the end are cleared
     ClearsBehind,
+    /// lengths are kept in 32 bits
+    ThirtyTwoBits,
 }
 
 pub struct Wrong(pub Lie);
@@ -130,6 +132,15 @@ struct Walk {
 impl Wrong {
     fn is(&self, lie: Lie) -> bool {
         self.0 == lie
+    }
+
+    /// How much of a slice it sees.
+    fn seen(&self, length: usize) -> usize {
+        if self.is(Lie::ThirtyTwoBits) {
+            length as u32 as usize
+        } else {
+            length
+        }
     }
 
     fn sum(&self, order: u32, sums: &mut (u32, u32), bytes: &[u8]) {
@@ -292,6 +303,8 @@ impl Wrong {
 
 impl Wal for Wrong {
     fn write(&self, store: &Areas, list: &[u32], target: &mut [u8], given: &Given) -> Reply {
+        let seen = self.seen(target.len());
+        let (list, target) = (&list[..self.seen(4 * list.len()) / 4], &mut target[..seen]);
         // Where tables are not checked, the areas must be long enough for the rest of this program at least.
         if !sound::broken(store).none() {
             return if self.is(Lie::Unchecked) { Reply::done(list.len() as u32, 0, 0) } else { Reply::refused(1) };
@@ -354,6 +367,7 @@ impl Wal for Wrong {
     }
 
     fn judge(&self, file: &[u8]) -> Judged {
+        let file = &file[..self.seen(file.len())];
         match self.open(file) {
             Err(code) => Judged { code, frames: 0, end: 0 },
             Ok(log) => {
@@ -367,6 +381,7 @@ impl Wal for Wrong {
     }
 
     fn find(&self, file: &[u8], page: u32) -> Found {
+        let file = &file[..self.seen(file.len())];
         let opened = self.open(file);
         if page == 0 && !(self.is(Lie::PageLate) && opened.is_err()) {
             return Found { code: 2, found: 0, at: 0 };
