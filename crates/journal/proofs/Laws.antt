@@ -4,9 +4,9 @@ use native.Mathlib.Omega.{arith}
 use native.Mathlib.Nat.{div-div-eq-div-mul}
 use mathlib.Core.Path.{_≡_, refl, sym, ap, _∙_, subst}
 use mathlib.Core.Bool.{Bool, true, false, not, _&&_, _||_}
-use mathlib.Core.List.{List, [], _∷_, _++_, append-assoc}
-use lib.ListN.{length, getD, take, drop, set, length-set}
-use lib.Seq.{sets-eq, drop-drop, getD-drop}
+use mathlib.Core.List.{List, [], _∷_, _++_, append-nil, append-assoc}
+use lib.ListN.{length, getD, take, drop, set, drop-of-length-le}
+use lib.Seq.{sets-eq, drop-drop, take-all, getD-drop}
 use lib.Dec.{eqb, leb}
 use borrow.Author.Tests.{eq-eqb, eqb-true, leb-true, le-leb, lt-leb}
 use Rattle.word.proofs.Tests.{and-both, among-four}
@@ -50,6 +50,13 @@ big-drop at k l =
 
 pub big-at : (at : ℕ) (l : List ℕ) → big (drop at l) 0 ≡ big l at
 big-at at l = let e : at + 0 ≡ at = omega arith in big-drop at 0 l ∙ ap (λ (x : ℕ). big l x) e
+
+-- bytes copied over as many
+pub copied : (s d ys : List ℕ) → length d ≡ length s → ys ≡ take (length s) s ++ drop (length s) d → ys ≡ s
+copied s d ys h e =
+    let a : length s ≤ length s = omega arith in
+    let b : length d ≤ length s = omega arith in
+    e ∙ rw (take-all (length s) s a, drop-of-length-le d b) (append-nil s)
 
 -- `sum::checksum_of`: a turn, and none left
 pub sum-turn : (page : List ℕ) (sum sum′ at b : ℕ) (total : ℕ) → 200 < at → b ≡ getD page (at - 200) 0 → sum′ ≡ (sum + b) % 2 ^ 32

@@ -4,22 +4,18 @@ use native.Mathlib.Omega.{arith}
 use native.Mathlib.Nat.{suc-mul, mul-le-mul-right, div-mul-le-self}
 use mathlib.Core.Path.{_≡_, refl, sym, ap, _∙_}
 use mathlib.Core.Bool.{Bool, true, false, _||_}
-use mathlib.Core.List.{List, [], _∷_, _++_, append-nil}
-use lib.ListN.{length, take, drop, length-drop, drop-of-length-le}
-use lib.Seq.{drop-drop, length-take-le, take-all}
+use mathlib.Core.List.{List, _++_}
+use lib.ListN.{length, take, drop, length-drop}
+use lib.Seq.{drop-drop, length-take-le}
 use lib.Dec.{eqb, ltb}
 use borrow.Author.Tests.{ltb-false, eqb-false}
 use Rattle.record.specs.Part.{part, withPart}
 use Rattle.record.proofs.Parts.{length-with}
 use Rattle.journal.specs.Layout.{big, Saved, savedOf, records}
 use Rattle.journal.specs.Playing.{isOutside, outside, withSaved, restored}
-use Rattle.journal.proofs.Laws.{big-at}
+use Rattle.journal.proofs.Laws.{big-at, copied}
+use Rattle.journal.proofs.Writes.{neither}
 use Rattle.journalplay.proofs.Looks.{lent-image, image-length}
-
--- neither of two tests
-pub neither : (a b : Bool) → (a || b) ≡ false → (a ≡ false) × (b ≡ false)
-neither false b h = (refl, h)
-neither true b h = let z : _≡_ {A = ℕ} 0 1 = cc in absurd (omega arith)
 
 -- the page before one of so many
 pub page-before : (n size : ℕ) → 1 ≤ n → (n - 1) * size + size ≡ n * size
@@ -39,13 +35,6 @@ inside lent size number h =
     some : (n : ℕ) → (n ≡ 0 → ⊥) → 1 ≤ n
     some zero z = absurd (z refl)
     some (suc n) z = omega arith
-
--- bytes copied over as many
-pub copied : (s d ys : List ℕ) → length d ≡ length s → ys ≡ take (length s) s ++ drop (length s) d → ys ≡ s
-copied s d ys h e =
-    let a : length s ≤ length s = omega arith in
-    let b : length d ≤ length s = omega arith in
-    e ∙ rw (take-all (length s) s a, drop-of-length-le d b) (append-nil s)
 
 -- `restore_one`: where the page lies, and the page written there
 module _ (n at size : ℕ) (body pages : List ℕ) (e : n ≡ big body at) (some : 1 ≤ big (drop at body) 0) (fits : big (drop at body) 0 * size ≤ length pages) where

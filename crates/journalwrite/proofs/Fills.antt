@@ -7,23 +7,29 @@ use lib.ListN.{length, take, drop, replicate, length-append, length-drop, length
 use lib.Seq.{take-at, drop-at, drop-drop, take-all, length-take-le}
 use Rattle.record.specs.Part.{part, withPart}
 use Rattle.record.proofs.Parts.{with-take, with-drop}
+use Rattle.journal.proofs.Laws.{copied}
+use Rattle.journal.proofs.Writes.{length-bytes}
 use Rattle.journal.specs.Layout.{firstBytes, bytesOf, headerBytes, Saved, recordBytes, checksum}
-
-pub length-bytes : (v : ℕ) → length (bytesOf v) ≡ 4
-unfolding bytesOf
-length-bytes v = refl
-
--- as many bytes over others: what `copy` says
-pub over : (s d ys : List ℕ) → length d ≡ length s → ys ≡ take (length s) s ++ drop (length s) d → ys ≡ s
-over s d ys h e =
-    let a : length s ≤ length s = omega arith in
-    let b : length d ≤ length s = omega arith in
-    e ∙ rw (take-all (length s) s a, drop-of-length-le d b) (append-nil s)
 
 -- the bytes ys behind x, which is all that was written so far
 pub behind : (x t t₁ t₂ ys : List ℕ) (a k : ℕ) → length x ≡ a → t₁ ≡ x ++ drop a t → t₂ ≡ withPart a k t₁ ys → t₂ ≡ (x ++ ys) ++ drop (a + k) t
 behind x t t₁ t₂ ys a k h e f =
     f ∙ rw (e, take-at x (drop a t) a h, drop-at x (drop a t) a h, drop-drop k a t) (sym (append-assoc x ys (drop (a + k) t)))
+
+-- `put_first`: the first bytes over eight others
+pub firsts-fit : (s t : List ℕ) → 8 ≤ length t → s ≡ firstBytes → length s ≤ length (take 8 t)
+unfolding firstBytes
+firsts-fit s t h e =
+    let n : length s ≡ 8 = ap length e in
+    let m : length (take 8 t) ≡ 8 = length-take-le 8 t h in
+    omega arith
+
+pub firsts : (s t ys : List ℕ) → 8 ≤ length t → s ≡ firstBytes → ys ≡ take (length s) s ++ drop (length s) (take 8 t) → ys ++ drop 8 t ≡ firstBytes ++ drop 8 t
+unfolding firstBytes
+firsts s t ys h e q =
+    let n : length s ≡ 8 = ap length e in
+    let m : length (take 8 t) ≡ 8 = length-take-le 8 t h in
+    ap (λ (x : List ℕ). x ++ drop 8 t) (copied s (take 8 t) ys (m ∙ sym n) q ∙ e)
 
 -- `put_fields`: five numbers behind the first bytes
 pub fields : (count nonce pages sector size : ℕ) (t t₁ t₂ t₃ t₄ t₅ t₆ : List ℕ) → t₁ ≡ firstBytes ++ drop 8 t
@@ -31,10 +37,14 @@ pub fields : (count nonce pages sector size : ℕ) (t t₁ t₂ t₃ t₄ t₅ t
     → t₆ ≡ (firstBytes ++ (bytesOf count ++ (bytesOf nonce ++ (bytesOf pages ++ (bytesOf sector ++ bytesOf size))))) ++ drop 28 t
 unfolding firstBytes bytesOf
 fields count nonce pages sector size t t₁ t₂ t₃ t₄ t₅ t₆ e₁ e₂ e₃ e₄ e₅ e₆ =
-    behind _ t t₅ t₆ (bytesOf size) 24 4 refl
-    (behind _ t t₄ t₅ (bytesOf sector) 20 4 refl
-    (behind _ t t₃ t₄ (bytesOf pages) 16 4 refl
-    (behind _ t t₂ t₃ (bytesOf nonce) 12 4 refl
+    let x₂ : List ℕ = firstBytes ++ bytesOf count in
+    let x₃ : List ℕ = x₂ ++ bytesOf nonce in
+    let x₄ : List ℕ = x₃ ++ bytesOf pages in
+    let x₅ : List ℕ = x₄ ++ bytesOf sector in
+    behind x₅ t t₅ t₆ (bytesOf size) 24 4 refl
+    (behind x₄ t t₄ t₅ (bytesOf sector) 20 4 refl
+    (behind x₃ t t₃ t₄ (bytesOf pages) 16 4 refl
+    (behind x₂ t t₂ t₃ (bytesOf nonce) 12 4 refl
     (behind firstBytes t t₁ t₂ (bytesOf count) 8 4 refl e₁ e₂)
     e₃)
     e₄)
@@ -76,7 +86,7 @@ record-put at number nonce sum page t t₁ ys t₂ t₃ h e₁ q e₂ es e₃ =
     let l₁ : drop (at + 4) t₁ ≡ drop (at + 4) t = with-drop at 4 (at + 4) t t₁ (bytesOf number) (omega arith) (length-bytes number) refl e₁ in
     let m : length (drop (at + 4) t) ≡ length t - (at + 4) = length-drop (at + 4) t in
     let g : length (take (at + 4 + n - (at + 4)) (drop (at + 4) t₁)) ≡ n = rw (d, l₁) (length-take-le n (drop (at + 4) t) (omega arith)) in
-    let z : ys ≡ page = over page (take (at + 4 + n - (at + 4)) (drop (at + 4) t₁)) ys g q in
+    let z : ys ≡ page = copied page (take (at + 4 + n - (at + 4)) (drop (at + 4) t₁)) ys g q in
     let f₂ : t₂ ≡ withPart (at + 4) n t₁ page = e₂ ∙ rw (d, z) refl in
     let two : t₂ ≡ withPart at (4 + n) t (bytesOf number ++ page) = join t t₁ t₂ (bytesOf number) page at 4 n (omega arith) (length-bytes number) e₁ f₂ in
     let w : length (bytesOf number ++ page) ≡ 4 + n = length-append (bytesOf number) page ∙ ap (λ (i : ℕ). i + n) (length-bytes number) in
