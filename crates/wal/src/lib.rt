@@ -84,3 +84,4 @@ pub fn sum(s: &[u8], at: usize, n: usize, big: bool, from: Sums) -> Sums
 }
 
 pub mod open;
+pub mod write;

@@ -91,7 +91,7 @@ fn holds_salts(f: &[u8], h: Header) -> bool
 }
 
 // The sums gone on over a frame.
-fn frame_sums(f: &[u8], h: Header, s: Sums) -> Sums
+pub fn frame_sums(f: &[u8], h: Header, s: Sums) -> Sums
     requires { ⌜ frameSize h ≤ length (now f) ⌝ }
     ensures { λ r. ⌜ r ≡ frameSums h s (now (f .entry)) ⌝ }
 {
