@@ -101,6 +101,21 @@ static uint32_t crc32(uint32_t crc, const uint8_t *bytes, size_t length)
     return ~crc;
 }
 
+/* The checksum of a record, by groups of eight bytes, the last one filled up with zeros. It is no CRC: pieces are bytes of
+ * others, and may hold a CRC of their own next to what it covers. Then one such run may stand for another, as when a record
+ * is torn and old bytes shine through, and a CRC around both does not see it. A product does. */
+static uint64_t mix(uint64_t state, const uint8_t *bytes, size_t length)
+{
+    for (size_t i = 0; i < length; i += 8) {
+        uint8_t last[8] = {0};
+        if (length - i < 8)
+            memcpy(last, bytes + i, length - i);
+        state = (state ^ get64(length - i < 8 ? last : bytes + i)) * UINT64_C(0x9e3779b97f4a7c15);
+        state ^= state >> 32;
+    }
+    return state;
+}
+
 /* ---- The system. These answer false, or -1, with the reason in errno. */
 
 static bool write_all(int file, const uint8_t *bytes, size_t length, size_t at)
@@ -469,7 +484,7 @@ static void set_seed(struct filestore *f, uint64_t generation, uint64_t tie)
     uint8_t words[16];
     put64(words, generation);
     put64(words + 8, tie);
-    f->seed = crc32(crc32(0, f->identity, sizeof f->identity), words, sizeof words);
+    f->seed = mix(mix(0, f->identity, sizeof f->identity), words, sizeof words);
 }
 
 /* A generation's header has its own slot, so that the one before stands until it is whole. */
@@ -510,6 +525,11 @@ static struct journal_head read_journal_head(int journal)
 
 /* ---- Records. */
 
+static uint32_t record_sum(const struct filestore *f, const uint8_t *record, uint32_t length)
+{
+    return (uint32_t)mix(f->seed, record + 4, length - 4);
+}
+
 /* Is there a whole record of this generation at this place of the journal? Anything may stand there. */
 static bool is_record(const struct filestore *f, const uint8_t *journal, uint32_t at)
 {
@@ -517,7 +537,7 @@ static bool is_record(const struct filestore *f, const uint8_t *journal, uint32_
         return false;
     uint32_t number = get32(journal + at + 8), kind = get32(journal + at + 20);
     return number > 0 && number < f->journal_length && get32(journal + at + 12) < number && kind >= COMMIT &&
-        kind <= MEND && get32(journal + at) == crc32(f->seed, journal + at + 4, RECORD_HEAD - 4 + get32(journal + at + 4));
+        kind <= MEND && get32(journal + at) == record_sum(f, journal + at, RECORD_HEAD + get32(journal + at + 4));
 }
 
 static bool piece_fits(const struct filestore *f, const uint8_t *piece, uint32_t left)
@@ -619,7 +639,7 @@ static uint32_t build_record(struct filestore *f, uint32_t kind, const struct fi
     put32(f->room + 12, f->synced);
     put32(f->room + 16, f->previous);
     put32(f->room + 20, kind);
-    put32(f->room, crc32(f->seed, f->room + 4, end - 4));
+    put32(f->room, record_sum(f, f->room, end));
     for (; end % ALIGNED != 0; end++)
         f->room[end] = 0;
     return end;

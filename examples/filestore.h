@@ -88,7 +88,8 @@ struct filestore {
     uint32_t state, applying;
     uint32_t journal_length, end; /* of the journal; where its next record begins */
     uint32_t records, synced;     /* this generation's, and those that a sync has covered */
-    uint32_t seed, previous;      /* what the checksums of records begin with; that of the last record */
+    uint64_t seed;                /* what the checksums of this generation's records begin with */
+    uint32_t previous;            /* that of the last record */
     bool ended;                   /* the last record is that of F's new checksums */
 };
 
