@@ -3,8 +3,10 @@
 
 use crate::bench::{clock, in_turn, measure, micros, Cost, Middle, Rounds, Stores, Trial};
 use crate::bench_stores::{log_growth, online_growth, rebuilds, Shape, Situation, STORES};
+use crate::bench_wal;
 use crate::calls::Store;
 use crate::flash;
+use crate::layouts;
 use crate::ledger::{transactions, Layout, Ledger, FRAMES, KS, LAYOUTS, POLICY, SPREAD, TRANSACTIONS};
 use crate::plot::{svg, Line, Panel};
 use crate::progress::Progress;
@@ -180,6 +182,7 @@ impl<S: Store + Clone> Bench<S> {
             two.run_all(&some);
             judge(same(&one, &two, k));
         }
+        judge(bench_wal::table(layouts::log_writer(), true).map(drop));
         (passed, wrong)
     }
 }
@@ -216,6 +219,7 @@ pub fn command<S: Store + Clone>(store: &S, linked: bool, words: &[String]) -> O
             write(file, &svg(&panels, 2, "across: rows in the table"))?;
             Ok(text)
         }),
+        ["wal"] => bench_wal::table(layouts::log_writer(), false),
         ["flash"] => Ok(flash::tables(store)),
         ["flash", file] => {
             write(file, &svg(&flash::panels(store), 3, "across: frames; k = 4")).map(|()| flash::tables(store))
