@@ -11,7 +11,7 @@ use Rattle.record.specs.Record.{pageOf, committed, applied, onPage, committedOn
 use Rattle.rules.specs.Lent.{Lent, sizeOf, pagesOf, onlineOf, pageIn}
 use Rattle.rules.specs.Sound.{every}
 use Rattle.rules.proofs.Every.{every-keep}
-use Rattle.onlinecheck.proofs.Rows.{every-imp}
+use Rattle.rules.proofs.Every.{every-imp}
 use Rattle.redo.proofs.Order.{_≈_}
 use Rattle.redo.proofs.Loose.{≅-free}
 use Rattle.redo.proofs.Views.{keep-same-where, keep-none, stored-then-online}
