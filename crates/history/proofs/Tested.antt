@@ -6,14 +6,12 @@ use mathlib.Core.Path.{_≡_, refl, ap, _∙_}
 use mathlib.Core.Bool.{Bool, true, false, not, _&&_, _||_}
 use mathlib.Core.List.{List, [], _∷_, _++_}
 use lib.ListN.{length, getD, drop}
-use lib.Dec.{eqb}
-use borrow.Author.Tests.{eq-eqb}
 use Rattle.word.proofs.Tests.{and-both, and-in}
-use Rattle.record.specs.Rows.{rowAt, rows, keep, consIf, any}
+use Rattle.record.specs.Rows.{rows, keep, consIf, any}
 use Rattle.record.specs.Record.{entered}
 use Rattle.rules.proofs.Every.{every-kept-where}
 use Rattle.table.proofs.Laws.{Wide, none, one}
-use Rattle.rules.specs.Sound.{every, same}
+use Rattle.rules.specs.Sound.{every}
 use Rattle.redo.proofs.View.{keep-append}
 use Rattle.redo.proofs.Views.{keep-none}
 use Rattle.redo.proofs.Loose.{_≅_, numberedFrom, ≅-every}
@@ -65,19 +63,6 @@ keep-behind c l m h = keep-append c l m ∙ ap (λ (k : List (List ℕ)). k ++ k
 
 pub any-behind : (c : List ℕ → Bool) (l m : List (List ℕ)) → every (λ (r : List ℕ). not (c r)) l ≡ true → any c (l ++ m) ≡ any c m
 any-behind c l m h = any-by c (l ++ m) m (keep-behind c l m h)
-
--- a row is the same as itself
-pub same-itself : (l : List ℕ) → same l l ≡ true
-unfolding same
-same-itself [] = refl
-same-itself (x ∷ l) = and-in (eqb x x) (same l l) (eq-eqb x x refl) (same-itself l)
-
--- row i of the first n
-pub rows-at : (w n : ℕ) (t : List ℕ) (k i : ℕ) → i < n → getD (rows w n t k) i [] ≡ rowAt w t (k + i)
-unfolding rows
-rows-at w zero t k i p = absurd (omega arith)
-rows-at w (suc n) t k zero p = ap (λ (j : ℕ). rowAt w t j) (omega arith)
-rows-at w (suc n) t k (suc i) p = rows-at w n t (k + 1) i (omega arith) ∙ ap (λ (j : ℕ). rowAt w t j) (omega arith)
 
 -- what each of the rows that log records make passes
 pub every-numbered : (c : List ℕ → Bool) (k : ℕ) (l : List (List ℕ)) → Wide 14 l → ((i : ℕ) → i < length l → length (getD l i []) ≡ 14 → c (entered (getD l i []) (k + i)) ≡ true) → every c (numberedFrom k l) ≡ true

@@ -10,9 +10,9 @@ use lib.Seq.{getD-append-add, length-take-le}
 use lib.Dec.{eqb, leb, ltb}
 use borrow.Author.Tests.{eqb-true, ltb-true, leb-true, lt-ltb, le-leb}
 use Rattle.word.proofs.Tests.{and-both, and-in}
-use Rattle.record.specs.Rows.{rowAt, keep, any}
-use Rattle.record.specs.Record.{pageOf, ownerOf, numberOf, committed, ownedBy, onPage, bodyOf, wellFormed, numbered, numberRows, shareByte}
-use Rattle.table.proofs.Laws.{Wide, wide-keep, length-rows}
+use Rattle.record.specs.Rows.{rowAt}
+use Rattle.record.specs.Record.{pageOf, ownerOf, numberOf, committed, ownedBy, bodyOf, wellFormed, numbered, numberRows, shareByte}
+use Rattle.table.proofs.Laws.{wide-keep, length-rows}
 use Rattle.rules.specs.Lent.{Lent, Durable, sizeOf, pagesOf, spanOf, lastOf, closedOf, loggedOf, firstOf, stampOf, dirtyOf, logOf, onlineOf}
 use Rattle.rules.specs.Sound.{every, pairs, between, same, apart, sound}
 use Rattle.rules.specs.Steps.{owned, committing}
@@ -26,11 +26,11 @@ use Rattle.readback.proofs.Seen.{only, livesOf, Whole}
 use Rattle.readback.proofs.Lost.{reads-committing}
 use Rattle.readback.proofs.Marks.{marks-commit, last-commit, closed-commit, logged-commit, stamp-commit, dirty-commit}
 use Rattle.readback.proofs.Log.{log-commit, log-zero-commit, log-length-commit}
-use Rattle.keeps.proofs.Tests.{every-all, every-append, same-itself, differ, differ-by}
+use Rattle.keeps.proofs.Tests.{every-append, same-itself, differ, differ-by}
 use Rattle.keeps.proofs.Clauses.{ownedRight, inLog, stampBelow, HoldsIn, sound-durable, sound-sized, sound-whole, sound-holds, sound-by}
 use Rattle.keeps.proofs.Durables.{DurableHolds, durable-holds, holds-durable}
 use Rattle.keeps.proofs.Begins.{others-owned}
-use Rattle.keeps.proofs.Numbering.{every-getD, wide-getD, rows-at, bodies-any, bodies-formed, mine, theirs, every-number, pairs-number}
+use Rattle.keeps.proofs.Numbering.{every-getD, wide-getD, rows-at, bodies-any, bodies-formed, theirs, every-number, pairs-number}
 
 -- a committed row: its number is one of those given out
 pub owned-number : (d : Durable) (lives r : List ℕ) → ownedRight d lives r ≡ true → numberOf r ≤ lastOf (only d)
