@@ -44,7 +44,7 @@ owned-number d lives r h = go (committed r) h
         omega (arith, eqb-true (numberOf r) 0 (b .1))
 
 -- and it is so with a later last number
-owned-later : (d c : Durable) (lives r : List ℕ) → lastOf (only d) ≤ lastOf (only c) → ownedRight d lives r ≡ true → ownedRight c lives r ≡ true
+pub owned-later : (d c : Durable) (lives r : List ℕ) → lastOf (only d) ≤ lastOf (only c) → ownedRight d lives r ≡ true → ownedRight c lives r ≡ true
 owned-later d c lives r m h = go (committed r) h
   where
     rest : Bool
@@ -57,7 +57,7 @@ owned-later d c lives r m h = go (committed r) h
     go false k = k
 
 -- a test of committed rows, where it holds of this one if it is committed
-if-committed : (b t u : Bool) → (b ≡ true → t ≡ true → u ≡ true) → (not b || t) ≡ true → (not b || u) ≡ true
+pub if-committed : (b t u : Bool) → (b ≡ true → t ≡ true → u ≡ true) → (not b || t) ≡ true → (not b || u) ≡ true
 if-committed true t u f h = f refl h
 if-committed false t u f h = refl
 

@@ -7,3 +7,5 @@ pub mod Sweeps
 pub mod Durables
 pub mod Numbering
 pub mod Commits
+pub mod Compacts
+pub mod Closes

@@ -4,6 +4,7 @@ use native.Mathlib.Omega.{arith}
 use mathlib.Core.Path.{_≡_, refl, sym, ap, _∙_}
 use mathlib.Core.Bool.{Bool, true, false, not, _&&_, _||_, or-false, or-assoc}
 use mathlib.Core.List.{List, [], _∷_, _++_}
+use lib.ListN.{drop}
 use lib.Dec.{eqb, ltb}
 use borrow.Author.Tests.{eqb-true, eqb-false, eq-eqb, not-true}
 use Rattle.word.proofs.Tests.{and-both, and-in}
@@ -73,6 +74,25 @@ pub any-last : (b : List ℕ → Bool) (l : List (List ℕ)) (r : List ℕ) → 
 unfolding any
 any-last b [] r = or-false (b r)
 any-last b (x ∷ l) r = ap (λ (t : Bool). b x || t) (any-last b l r) ∙ sym (or-assoc (b x) (any b l) (b r))
+
+-- rows behind some
+pub every-drop : (b : List ℕ → Bool) (n : ℕ) (l : List (List ℕ)) → every b l ≡ true → every b (drop n l) ≡ true
+unfolding every
+every-drop b zero l h = h
+every-drop b (suc n) [] h = h
+every-drop b (suc n) (r ∷ l) h = every-drop b n l (and-both (b r) (every b l) h .1)
+
+-- what those kept pass, told of all
+pub picked-every : (a c : List ℕ → Bool) (l : List (List ℕ)) → every c (keep a l) ≡ true → every (λ (r : List ℕ). not (a r) || c r) l ≡ true
+unfolding every keep
+picked-every a c [] h = refl
+picked-every a c (r ∷ l) h = pick (a r) (picked-every a c l) h
+  where
+    pick : (t : Bool) → (every c (keep a l) ≡ true → every (λ (q : List ℕ). not (a q) || c q) l ≡ true) → every c (consIf t r (keep a l)) ≡ true → ((not t || c r) && every (λ (q : List ℕ). not (a q) || c q) l) ≡ true
+    pick true f k =
+        let e : (c r ≡ true) × (every c (keep a l) ≡ true) = and-both (c r) (every c (keep a l)) k in
+        and-in (c r) (every (λ (q : List ℕ). not (a q) || c q) l) (e .0) (f (e .1))
+    pick false f k = f k
 
 -- each two of those kept
 pub pairs-keep : (a : List ℕ → Bool) (b : List ℕ → List ℕ → Bool) (l : List (List ℕ)) → pairs b l ≡ true → pairs b (keep a l) ≡ true
