@@ -73,7 +73,7 @@ fn usage() -> ExitCode {
          \x20      ventarico-host wrong [seed]             wrong stores, each of which must be caught\n\
          \x20      ventarico-host coverage [calls] [seed]  sessions and damage, then what they have shown\n\
          \x20      ventarico-host all [calls] [seed]       all of these\n\
-         \x20      ventarico-host bench WHAT [FILE]        calls, growth, ledger, flash or quick; see host/bench",
+         \x20      ventarico-host bench WHAT [FILE]        calls, growth, ledger, rebuild, flash or quick; see host/bench",
         CALLS / PAIRS_PART
     );
     ExitCode::from(2)

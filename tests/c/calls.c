@@ -13,5 +13,6 @@ int main(void)
     topic("soundness", soundness);
     topic("ranges", ranges);
     topic("clerk", clerk);
+    topic("wrappers", wrappers);
     return checks_end();
 }

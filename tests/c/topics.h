@@ -9,5 +9,6 @@ void refusals(void);
 void soundness(void);
 void ranges(void);
 void clerk(void);
+void wrappers(void);
 
 #endif

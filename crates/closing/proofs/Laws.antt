@@ -13,7 +13,7 @@ use Rattle.word.specs.Word.{num, put}
 use Rattle.record.specs.Part.{withPart}
 use Rattle.record.specs.Rows.{rowAt, rows, table, keep, consIf}
 use Rattle.record.specs.Record.{pageOf, ownerOf, numberOf, committed, lesser, smallest}
-use Rattle.table.proofs.Laws.{rows-more, rows-end, rows-start, length-rows}
+use Rattle.record.proofs.Rows.{rows-more, rows-end, rows-start, length-rows}
 use Rattle.table.proofs.Moves.{lent-back}
 use Rattle.rules.specs.Lent.{Lent, lentOf, dirtyAt}
 use Rattle.rules.specs.Steps.{lowered, droppedBy, closed}

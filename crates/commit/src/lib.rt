@@ -8,7 +8,7 @@ ghost use lib.Dec.{eqb};
 ghost use Rattle.word.specs.Word.{num, put};
 ghost use Rattle.record.specs.Rows.{rows, joined, keep};
 ghost use Rattle.record.specs.Record.{ownedBy, bodyOf, numberRows};
-ghost use Rattle.rules.specs.Lent.{spanOf, lastOf, loggedOf, countOf, liveAt};
+ghost use Rattle.rules.specs.Lent.{logSizeOf, lastOf, loggedOf, countOf, liveAt};
 ghost use Rattle.rules.specs.Areas.{areas, before, after};
 ghost use Rattle.rules.specs.Shape.{Shaped};
 ghost use Rattle.rules.specs.Sound.{zeros};
@@ -67,7 +67,7 @@ pub fn commit(
     pool: &[u8],
     owner: u8,
 ) -> u32
-    requires { ⌜ Shaped (areas fixed marks log stored tables online pool) × (1 ≤ owner) × (owner ≤ 32) × (loggedOf (areas fixed marks log stored tables online pool) + length (owned (areas fixed marks log stored tables online pool) owner) ≤ spanOf (areas fixed marks log stored tables online pool)) × (lastOf (areas fixed marks log stored tables online pool) + length (owned (areas fixed marks log stored tables online pool) owner) ≤ 4294967295) × (zeros (drop (countOf (areas fixed marks log stored tables online pool) * 19) (now online)) ≡ true) × (zeros (drop (loggedOf (areas fixed marks log stored tables online pool) * 14) (now log)) ≡ true) ⌝ }
+    requires { ⌜ Shaped (areas fixed marks log stored tables online pool) × (1 ≤ owner) × (owner ≤ 32) × (loggedOf (areas fixed marks log stored tables online pool) + length (owned (areas fixed marks log stored tables online pool) owner) ≤ logSizeOf (areas fixed marks log stored tables online pool)) × (lastOf (areas fixed marks log stored tables online pool) + length (owned (areas fixed marks log stored tables online pool) owner) ≤ 4294967295) × (zeros (drop (countOf (areas fixed marks log stored tables online pool) * 19) (now online)) ≡ true) × (zeros (drop (loggedOf (areas fixed marks log stored tables online pool) * 14) (now log)) ≡ true) ⌝ }
     ensures { λ r. ⌜ (r ≡ committing (before fixed marks log stored tables online pool) owner .logs) × (after fixed marks log stored tables online pool ≡ committing (before fixed marks log stored tables online pool) owner .lent) ⌝ }
 {
     let m = word::load(tables, 0, 2) as usize;

@@ -11,7 +11,7 @@ ghost use Rattle.record.specs.Rows.{rowAt, rows, keep};
 ghost use Rattle.record.specs.Record.{onPage, apply, applied, rowOf};
 ghost use Rattle.order.specs.Order.{touched};
 ghost use Rattle.order.specs.Meant.{listOf};
-ghost use Rattle.rules.specs.Lent.{sizeOf, pagesOf, framesOf, roomOf, countOf, orderOf, entryAt, dirtyIn, pageIn, withPage, withOrder, withEntries, withCount};
+ghost use Rattle.rules.specs.Lent.{sizeOf, pagesOf, framesOf, onlineSizeOf, countOf, orderOf, entryAt, dirtyIn, pageIn, withPage, withOrder, withEntries, withCount};
 ghost use Rattle.rules.specs.Areas.{areas, before};
 ghost use Rattle.rules.specs.Sound.{zeros};
 ghost use Rattle.rules.specs.Shape.{Shaped};
@@ -284,7 +284,7 @@ pub fn update(
     v: u64,
     owner: u8,
 ) -> u32
-    requires { ⌜ Shaped (areas fixed marks log stored tables online pool) × (p .0 < pagesOf (areas fixed marks log stored tables online pool)) × (offset + w ≤ sizeOf (areas fixed marks log stored tables online pool)) × (w ≤ 8) × (countOf (areas fixed marks log stored tables online pool) < roomOf (areas fixed marks log stored tables online pool)) × (zeros (drop (countOf (areas fixed marks log stored tables online pool) * 19) (now online)) ≡ true) ⌝ }
+    requires { ⌜ Shaped (areas fixed marks log stored tables online pool) × (p .0 < pagesOf (areas fixed marks log stored tables online pool)) × (offset + w ≤ sizeOf (areas fixed marks log stored tables online pool)) × (w ≤ 8) × (countOf (areas fixed marks log stored tables online pool) < onlineSizeOf (areas fixed marks log stored tables online pool)) × (zeros (drop (countOf (areas fixed marks log stored tables online pool) * 19) (now online)) ≡ true) ⌝ }
     ensures { λ r. ⌜ UpdateDone (before fixed marks log stored tables online pool) (rowOf (p .0) offset w kind v owner) r (now (tables .exit)) (now (online .exit)) (now (pool .exit)) ⌝ }
 {
     let s = load_sizes(fixed);

@@ -10,11 +10,10 @@ use lib.Dec.{leb}
 use borrow.Author.Tests.{eqb-true, ne-eqb, lt-leb}
 use Rattle.record.specs.Rows.{keep, consIf}
 use Rattle.record.specs.Record.{ownerOf, numberOf, committed, applied, onPage, committedOn, ownedBy, numbered, numberRows}
-use Rattle.table.proofs.Laws.{Wide, none, one, wide-keep, wide-append, wide-number}
+use Rattle.record.proofs.Rows.{Wide, none, one, wide-keep, wide-append, wide-number}
 use Rattle.rules.specs.Sound.{every}
 use Rattle.rules.proofs.Extremes.{numberAtMost}
-use Rattle.rules.proofs.Every.{or-right, every-kept, keep-within}
-use Rattle.onlinecheck.proofs.Rows.{every-imp}
+use Rattle.rules.proofs.Every.{or-right, every-kept, keep-within, every-imp}
 use Rattle.redo.proofs.View.{keep-append}
 use Rattle.redo.proofs.Views.{keep-keep, keep-same, keep-same-where, keep-swap}
 use Rattle.redo.proofs.Loose.{≅-every, owned-open}

@@ -10,10 +10,10 @@ use lib.Dec.{eqb}
 use Rattle.word.proofs.Tests.{and-both}
 use Rattle.record.specs.Rows.{keep, consIf}
 use Rattle.record.specs.Record.{ownerOf, numberOf, committed, ownedBy, bodyOf, wellFormed}
-use Rattle.table.proofs.Laws.{Wide, none, one, wide-keep, wide-append, wide-bodies}
+use Rattle.record.proofs.Rows.{Wide, none, one, wide-keep, wide-append, wide-bodies}
+use Rattle.rules.specs.declared.Params.{Params}
 use Rattle.rules.specs.Sound.{every, pairs, between, apart}
-use Rattle.rules.proofs.Every.{every-kept, keep-within, every-kept-where}
-use Rattle.onlinecheck.proofs.Rows.{every-imp}
+use Rattle.rules.proofs.Every.{every-kept, keep-within, every-kept-where, every-imp}
 use Rattle.redo.proofs.View.{keep-append}
 use Rattle.redo.proofs.Views.{keep-swap, keep-all}
 use Rattle.redo.proofs.Loose.{_≅_, still, then, numberedFrom, ≅-sym, ≅-equal, ≅-before, ≅-keep, ≅-wide, ≅-number, owned-open}
@@ -193,9 +193,9 @@ unfolding rises
 past-rises p = past-bare p false
 
 -- format: nothing is committed yet, and nothing made
-pub past-fresh : (size pages last : ℕ) (start : List ℕ) → last ≤ 4294967295 → PastRight (record { size = size; pages = pages; start = start; base = last }) [] (fresh size pages last start)
+pub past-fresh : (g : Params) (last : ℕ) (start : List ℕ) → last ≤ 4294967295 → PastRight (record { size = g .size; pages = g .pages; start = start; base = last }) [] (fresh g last start)
 unfolding fresh keep every pairs numberedFrom
-past-fresh size pages last start b =
+past-fresh g last start b =
     record {
       size = refl;
       pages = refl;

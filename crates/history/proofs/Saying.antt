@@ -8,11 +8,12 @@ use mathlib.Core.List.{List, [], _∷_, _++_}
 use lib.ListN.{length, take, drop}
 use lib.Dec.{ltb}
 use borrow.Author.Tests.{not-false, le-ltb}
+use Rattle.record.specs.Record.{rowOf}
 use Rattle.rules.specs.declared.Refusal.{Refusal}
 use Rattle.rules.specs.declared.Refusal.the-variants.{NotSound, NotLive, Live, Held, OnlineFull, LogFull, NumbersEnd}
 use Rattle.rules.specs.declared.Verdict.{Verdict}
 use Rattle.rules.specs.declared.Verdict.the-variants.{Go, Refuse}
-use Rattle.rules.specs.Lent.{Lent, sizeOf, pagesOf, roomOf, spanOf, lastOf, loggedOf, countOf, onlineOf}
+use Rattle.rules.specs.Lent.{Lent, sizeOf, pagesOf, onlineSizeOf, logSizeOf, lastOf, loggedOf, countOf, onlineOf}
 use Rattle.rules.specs.Steps.{owned}
 use Rattle.rules.specs.Calls.{Test, _when_, refuseIf, verdictOf, unsound, noRoom, isNumber, isLive, beginRefusals, readRefusals, updateRefusals, commitRefusals, abortRefusals, judgeBegin, judgeRead, judgeUpdate, judgeCommit, judgeAbort}
 use Rattle.rules.proofs.Verdicts.{past-all, number-least, number-most}
@@ -20,7 +21,7 @@ use Rattle.history.specs.Past.{Past}
 use Rattle.history.specs.Saying.{ownedIn, sayBegin, sayRead, sayUpdate, sayCommit, sayAbort}
 use Rattle.history.proofs.Right.{Ground, Right}
 use Rattle.history.proofs.Soundly.{right-sound}
-use Rattle.history.proofs.Known.{size-read, pages-read, last-read, live-read, held-read, owned-read}
+use Rattle.history.proofs.Known.{size-read, pages-read, last-read, live-read, read-held, update-held, owned-read}
 
 -- the same verdict, unless it is this refusal
 abbrev pub Unless : Refusal → Verdict → Verdict → Type 0
@@ -71,7 +72,7 @@ module _ (g : Ground) (done : List (List ℕ)) (h : Past) (s : Lent) (c : Right 
         judged (reads (sizeOf s) (pagesOf s) (isLive (s .lost .tables)) (onlineOf s))
         ∙ (λ i. verdictOf (reads (size-read g done h s c i) (pages-read g done h s c i) (isLive (s .lost .tables)) (onlineOf s)))
         ∙ past-all _≡_ (λ v. refl) (take 5 l) (drop 5 l) (drop 5 (reads (h .size) (h .pages) (h .live) (h .made)))
-        (λ f i. verdictOf (NotLive when not (live-of x (f 1) i) ∷ Held when held-read g done h s c x p offset w i ∷ []))
+        (λ f i. verdictOf (NotLive when not (live-of x (f 1) i) ∷ Held when read-held g done h s c x p offset w i ∷ []))
 
   -- and how many rows are taken
   module _ (x p offset w kind v : ℕ) where
@@ -81,14 +82,14 @@ module _ (g : Ground) (done : List (List ℕ)) (h : Past) (s : Lent) (c : Right 
     pub update-said : Unless OnlineFull (judgeUpdate s x p offset w kind v) (sayUpdate h x p offset w kind v)
     unfolding judgeUpdate updateRefusals sayUpdate verdictOf
     update-said =
-        let l = updates (h .size) (h .pages) (roomOf s) (countOf s) (isLive (s .lost .tables)) (onlineOf s) in
-        let k = updates (h .size) (h .pages) (roomOf s) (countOf s) (h .live) (h .made) in
+        let l = updates (h .size) (h .pages) (onlineSizeOf s) (countOf s) (isLive (s .lost .tables)) (onlineOf s) in
+        let k = updates (h .size) (h .pages) (onlineSizeOf s) (countOf s) (h .live) (h .made) in
         unless-same
-        (judged (updates (sizeOf s) (pagesOf s) (roomOf s) (countOf s) (isLive (s .lost .tables)) (onlineOf s))
-        ∙ (λ i. verdictOf (updates (size-read g done h s c i) (pages-read g done h s c i) (roomOf s) (countOf s) (isLive (s .lost .tables)) (onlineOf s)))
+        (judged (updates (sizeOf s) (pagesOf s) (onlineSizeOf s) (countOf s) (isLive (s .lost .tables)) (onlineOf s))
+        ∙ (λ i. verdictOf (updates (size-read g done h s c i) (pages-read g done h s c i) (onlineSizeOf s) (countOf s) (isLive (s .lost .tables)) (onlineOf s)))
         ∙ past-all _≡_ (λ v. refl) (take 6 l) (drop 6 l) (drop 6 k)
-        (λ f i. verdictOf (NotLive when not (live-of x (f 1) i) ∷ Held when held-read g done h s c x p offset w i ∷ OnlineFull when noRoom (roomOf s) (countOf s) 1 ∷ [])))
-        (past-all (Unless OnlineFull) (λ v. inl refl) (take 8 k) (drop 8 k) (drop 8 (updates (h .size) (h .pages) 1 0 (h .live) (h .made))) (λ f. unless-full OnlineFull (noRoom (roomOf s) (countOf s) 1) (noRoom 1 0 1) Go refl))
+        (λ f i. verdictOf (NotLive when not (live-of x (f 1) i) ∷ Held when update-held g done h s c (rowOf p offset w kind v x) i ∷ OnlineFull when noRoom (onlineSizeOf s) (countOf s) 1 ∷ [])))
+        (past-all (Unless OnlineFull) (λ v. inl refl) (take 8 k) (drop 8 k) (drop 8 (updates (h .size) (h .pages) 1 0 (h .live) (h .made))) (λ f. unless-full OnlineFull (noRoom (onlineSizeOf s) (countOf s) 1) (noRoom 1 0 1) Go refl))
 
   -- and how long the log is
   module _ (x : ℕ) where
@@ -101,12 +102,12 @@ module _ (g : Ground) (done : List (List ℕ)) (h : Past) (s : Lent) (c : Right 
     pub commit-said : Unless LogFull (judgeCommit s x) (sayCommit h x)
     unfolding judgeCommit commitRefusals sayCommit verdictOf
     commit-said =
-        let l = commits (spanOf s) (loggedOf s) (h .last) (isLive (s .lost .tables)) (length (owned s x)) in
-        let k = commits (spanOf s) (loggedOf s) (h .last) (h .live) (ownedIn h x) in
+        let l = commits (logSizeOf s) (loggedOf s) (h .last) (isLive (s .lost .tables)) (length (owned s x)) in
+        let k = commits (logSizeOf s) (loggedOf s) (h .last) (h .live) (ownedIn h x) in
         unless-same
-        (judged (commits (spanOf s) (loggedOf s) (lastOf s) (isLive (s .lost .tables)) (length (owned s x)))
-        ∙ (λ i. verdictOf (commits (spanOf s) (loggedOf s) (last-read g done h s c i) (isLive (s .lost .tables)) (length (owned s x))))
+        (judged (commits (logSizeOf s) (loggedOf s) (lastOf s) (isLive (s .lost .tables)) (length (owned s x)))
+        ∙ (λ i. verdictOf (commits (logSizeOf s) (loggedOf s) (last-read g done h s c i) (isLive (s .lost .tables)) (length (owned s x))))
         ∙ past-all _≡_ (λ v. refl) (take 1 l) (drop 1 l) (drop 1 k)
-        (λ f i. verdictOf (NotLive when not (live-of x (f 0) i) ∷ LogFull when noRoom (spanOf s) (loggedOf s) (same-count (f 0) i) ∷ NumbersEnd when ltb 4294967295 (h .last + same-count (f 0) i) ∷ [])))
+        (λ f i. verdictOf (NotLive when not (live-of x (f 0) i) ∷ LogFull when noRoom (logSizeOf s) (loggedOf s) (same-count (f 0) i) ∷ NumbersEnd when ltb 4294967295 (h .last + same-count (f 0) i) ∷ [])))
         (past-all (Unless LogFull) (λ v. inl refl) (take 2 k) (drop 2 k) (drop 2 (commits (ownedIn h x) 0 (h .last) (h .live) (ownedIn h x)))
-        (λ f. unless-full LogFull (noRoom (spanOf s) (loggedOf s) (ownedIn h x)) (noRoom (ownedIn h x) 0 (ownedIn h x)) (verdictOf (drop 3 k)) (le-ltb (ownedIn h x) (0 + ownedIn h x) (omega arith))))
+        (λ f. unless-full LogFull (noRoom (logSizeOf s) (loggedOf s) (ownedIn h x)) (noRoom (ownedIn h x) 0 (ownedIn h x)) (verdictOf (drop 3 k)) (le-ltb (ownedIn h x) (0 + ownedIn h x) (omega arith))))

@@ -12,25 +12,24 @@ use borrow.Author.Tests.{eq-eqb, eqb-true, le-leb, leb-true, ltb-true}
 use Rattle.word.proofs.Tests.{and-both, and-in}
 use Rattle.record.specs.Part.{part}
 use Rattle.record.specs.Rows.{rowAt, rows, keep, any}
-use Rattle.record.specs.Record.{ownerOf, numberOf, committed, bodyOf, entered, wellFormed, shareByte}
+use Rattle.record.specs.Record.{ownerOf, numberOf, committed, bodyOf, entered, wellFormed, free}
 use Rattle.rules.specs.Lent.{Lent, Durable, sizeOf, pagesOf, lastOf, loggedOf, firstOf, logOf, liveOf, onlineOf}
 use Rattle.rules.specs.Sound.{every, pairs, between, apart, same, soundDurable, sound}
-use Rattle.rules.proofs.Every.{or-left, or-right, every-keep}
-use Rattle.onlinecheck.proofs.Rows.{every-imp}
-use Rattle.redo.proofs.Order.{free, free-sym, pairs-imp}
+use Rattle.rules.proofs.Every.{or-left, or-right, every-keep, every-imp}
+use Rattle.redo.proofs.Order.{free-sym, pairs-imp}
 use Rattle.redo.proofs.Views.{rising}
 use Rattle.redo.proofs.Loose.{≅-sym, ≅-pairs-true}
 use Rattle.redo.proofs.Numbered.{entered-committed, entered-number, entered-bytes}
 use Rattle.redo.proofs.Reader.{every-both}
 use Rattle.readback.proofs.Seen.{only, livesOf, Areas}
 use Rattle.readback.proofs.Lost.{live-whole}
-use Rattle.keeps.proofs.Tests.{every-append, every-all, pairs-keep, differ, differ-by, differ-then, same-itself}
+use Rattle.keeps.proofs.Tests.{every-drop, every-append, every-all, pairs-keep, differ, differ-by, differ-then, same-itself}
 use Rattle.keeps.proofs.Durables.{DurableHolds, holds-durable}
 use Rattle.keeps.proofs.Numbering.{rows-at}
 use Rattle.keeps.proofs.Clauses.{ownedRight, inLog, stampBelow, HoldsIn, sound-by}
 use Rattle.history.specs.Past.{Past}
 use Rattle.history.proofs.Right.{Ground, rowsOf, openOf, aboveStamp, DurableRight, Right}
-use Rattle.history.proofs.Tested.{every-drop, every-numbered}
+use Rattle.history.proofs.Tested.{every-numbered}
 use Rattle.history.proofs.Facts.{done-formed, done-committed, done-rising, open-every, marks-long, stored-long, logged-last, online-every, online-each}
 
 -- what restart checks holds of the durable part, and of the lengths of the lost one
@@ -96,15 +95,15 @@ differ-append (r ∷ l) m h k =
 
 -- S13: a committed record is apart from any other
 apart-sym : (a b : List ℕ) → apart a b ≡ true → apart b a ≡ true
-unfolding apart free
+unfolding apart
 apart-sym a b h = pick (committed a) (committed b) (eqb (ownerOf a) (ownerOf b)) refl h
   where
-    pick : (x y z : Bool) → eqb (ownerOf a) (ownerOf b) ≡ z → (x || y || z || not (shareByte a b)) ≡ true → (y || x || eqb (ownerOf b) (ownerOf a) || not (shareByte b a)) ≡ true
+    pick : (x y z : Bool) → eqb (ownerOf a) (ownerOf b) ≡ z → (x || y || z || free a b) ≡ true → (y || x || eqb (ownerOf b) (ownerOf a) || free b a) ≡ true
     pick true true z e p = refl
     pick true false z e p = refl
     pick false true z e p = refl
-    pick false false true e p = or-left (eqb (ownerOf b) (ownerOf a)) (not (shareByte b a)) (eq-eqb (ownerOf b) (ownerOf a) (sym (eqb-true (ownerOf a) (ownerOf b) e)))
-    pick false false false e p = or-right (eqb (ownerOf b) (ownerOf a)) (not (shareByte b a)) (free-sym a b p)
+    pick false false true e p = or-left (eqb (ownerOf b) (ownerOf a)) (free b a) (eq-eqb (ownerOf b) (ownerOf a) (sym (eqb-true (ownerOf a) (ownerOf b) e)))
+    pick false false false e p = or-right (eqb (ownerOf b) (ownerOf a)) (free b a) (free-sym a b p)
 
 apart-append : (l m : List (List ℕ)) → every committed l ≡ true → pairs apart m ≡ true → pairs apart (l ++ m) ≡ true
 unfolding pairs every apart

@@ -8,7 +8,7 @@ ghost use lib.Dec.{leb, ltb};
 ghost use Rattle.record.specs.Rows.{rowAt, rows};
 ghost use Rattle.record.specs.Record.{isLength};
 ghost use Rattle.rules.specs.Sound.{between};
-ghost use Rattle.rules.specs.Calls.{clashes, held, isNumber, isLive, verdictOf, beginRefusals, readRefusals, updateRefusals, abortRefusals, evictRefusals, commitRefusals, compactRefusals, checkpointRefusals};
+ghost use Rattle.rules.specs.Calls.{clashes, heldToRead, isNumber, isLive, verdictOf, beginRefusals, readRefusals, updateRefusals, abortRefusals, evictRefusals, commitRefusals, compactRefusals, checkpointRefusals};
 use rules::Bad;
 use rules::Refusal;
 use rules::Verdict;
@@ -113,7 +113,7 @@ pub fn may_checkpoint(min_del: u32, max_age: u32) -> Verdict
     Verdict::Go
 }
 
-// Row i of the online table is another live owner's, and shares a byte with those asked for.
+// Row i of the online table is another live owner's, and has a byte of those asked for.
 fn clashes_row(online: &[u8], i: usize, x: u32, p: u32, offset: u32, w: u32) -> bool
     requires { ⌜ i * 19 + 19 ≤ length (now online) ⌝ }
     ensures { λ r. ⌜ r ≡ clashes x p offset w (rowAt 19 (now (online .entry)) i) ⌝ }
@@ -123,13 +123,13 @@ fn clashes_row(online: &[u8], i: usize, x: u32, p: u32, offset: u32, w: u32) -> 
     let from = record::offset_of(online, 19, i);
     let to = from + record::length_of(online, 19, i);
     let at = offset as usize;
-    (owner != 0) & (owner != x) & (page.0 == p as usize) & (from < at + w as usize) & (at < to)
+    (owner != 0) & (owner != x) & ((page.0 == p as usize) & (from < at + w as usize) & (at < to))
 }
 
 // A byte asked for is in another live owner's record.
 fn is_held(online: &[u8], m: usize, x: u32, p: u32, offset: u32, w: u32) -> bool
     requires { ⌜ m * 19 ≤ length (now online) ⌝ }
-    ensures { λ r. ⌜ r ≡ held (rows 19 m (now (online .entry)) 0) x p offset w ⌝ }
+    ensures { λ r. ⌜ r ≡ heldToRead (rows 19 m (now (online .entry)) 0) x p offset w ⌝ }
 {
     let mut i = 0;
     while i < m {
@@ -225,7 +225,7 @@ pub fn may_update(
     kind: u32,
     v: u64,
 ) -> Verdict
-    requires { ⌜ (35 ≤ length (now tables)) × (m ≤ 512) × (m * 19 ≤ length (now online)) ⌝ }
+    requires { ⌜ (35 ≤ length (now tables)) × (m ≤ 512) × (m * 19 ≤ length (now online)) × (size ≤ 4096) × (pages ≤ 1024) ⌝ }
     ensures { λ r. ⌜ r ≡ verdictOf (updateRefusals size pages room m (isLive (now (tables .entry))) (rows 19 m (now (online .entry)) 0) x p offset w kind v) ⌝ }
 {
     if pages <= p as usize {

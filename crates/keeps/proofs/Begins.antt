@@ -17,8 +17,8 @@ use Rattle.rules.specs.Lent.{Lent, Durable, sizeOf, pagesOf, framesOf, lastOf, 
 use Rattle.rules.specs.Sound.{every, between, apart, sound}
 use Rattle.rules.specs.Steps.{freedOf, begun, evicted, owned, others, aborted}
 use Rattle.rules.proofs.Every.{every-set, every-keep, every-kept-where}
-use Rattle.onlinecheck.proofs.Rows.{every-imp}
-use Rattle.onlinecheck.proofs.Laws.{formed-page}
+use Rattle.rules.proofs.Every.{every-imp}
+use Rattle.rules.proofs.Clauses.{formed-page}
 use Rattle.seats.proofs.Seated.{Seated}
 use Rattle.seats.proofs.Places.{seated-leave}
 use Rattle.seats.proofs.Loops.{seated-abort, abort-dirty}
@@ -132,7 +132,7 @@ unfolding aborted
 sound-abort s x e low high =
     let h : HoldsIn s = sound-holds s e in
     let below : every (λ (r : List ℕ). ltb (pageOf r) (pagesOf s)) (onlineOf s) ≡ true = formed-page (sizeOf s) (pagesOf s) (onlineOf s) (h .formed) in
-    let r = reads-aborted s x (sound-whole s e) (sound-sized s e .room) low high below in
+    let r = reads-aborted s x (sound-whole s e) (sound-sized s e .online-size) low high below in
     let n : length (entriesOf s) ≡ pagesOf s = entries-length s (sound-whole s e .areas) in
     let other : List ℕ → Bool = λ (q : List ℕ). not (ownedBy x q) in
     sound-by (durable-again (s .durable) (s .lost) (aborted s x .lent .lost) (sound-durable s e) (r .areas)) r

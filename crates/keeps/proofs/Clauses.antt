@@ -12,14 +12,14 @@ use Rattle.record.specs.Part.{part}
 use Rattle.record.specs.Rows.{rowAt, any}
 use Rattle.record.specs.Record.{pageOf, ownerOf, numberOf, committed, bodyOf, onPage, wellFormed}
 use Rattle.record.proofs.Parts.{length-part}
-use Rattle.table.proofs.Laws.{wide-all, length-rows}
-use Rattle.rules.specs.Lent.{Lent, Durable, Lost, sizeOf, pagesOf, framesOf, roomOf, spanOf, lastOf, firstOf, stampOf, countOf, usedOf, liveOf, orderOf, entriesOf, onlineOf, isDirty}
+use Rattle.record.proofs.Rows.{wide-all, length-rows}
+use Rattle.rules.specs.Lent.{Lent, Durable, Lost, sizeOf, pagesOf, framesOf, onlineSizeOf, logSizeOf, lastOf, firstOf, stampOf, countOf, usedOf, liveOf, orderOf, entriesOf, onlineOf, isDirty}
 use Rattle.rules.specs.Sound.{every, pairs, upTo, zeros, between, same, agree, apart, owning, serving, times, exactLengths, s1-parameters, s2-lengths, s3-logged, s16-logged, s18-first, s15-stamps, s17-s19-dirty, s7-log-records, s14-log-zero, s3-counts, s20-live, s4-entries, s5-frame-once, s6-order, s14-order-zero, s7-online-records, s8-owners, s14-online-zero, s10-in-log, s11-above-stamp, s9-number-once, s12-dirty, s13-apart, soundDurable, soundLost, sound}
 use Rattle.rules.specs.Shape.{Sized}
 use Rattle.durable.proofs.Laws.{durable-sized}
 use Rattle.seats.proofs.Seated.{Seated}
 use Rattle.seats.proofs.Places.{seated-s5, seated-s6}
-use Rattle.onlinecheck.proofs.Rows.{every-imp}
+use Rattle.rules.proofs.Every.{every-imp}
 use Rattle.readback.proofs.Seen.{only, livesOf, Areas, Reads, Whole, over, whole}
 use Rattle.readback.proofs.Lost.{live-whole}
 use Rattle.keeps.proofs.Tests.{upTo-all, upTo-at, agree-same, agree-then, differ}
@@ -190,8 +190,8 @@ unfolding s3-counts s14-order-zero s14-online-zero
 sound-whole s e =
     let z : Sized s = sound-sized s e in
     let c : LostClauses s = sound-lost s e in
-    let k = and-both (leb (countOf s) (roomOf s)) (leb (usedOf s) (framesOf s)) (c .s3) in
-    let m : countOf s ≤ roomOf s = leb-true (countOf s) (roomOf s) (k .0) in
+    let k = and-both (leb (countOf s) (onlineSizeOf s)) (leb (usedOf s) (framesOf s)) (c .s3) in
+    let m : countOf s ≤ onlineSizeOf s = leb-true (countOf s) (onlineSizeOf s) (k .0) in
     let u : usedOf s ≤ framesOf s = leb-true (usedOf s) (framesOf s) (k .1) in
     let n : length (onlineOf s) ≡ countOf s = length-rows 19 (countOf s) (s .lost .online) 0 in
     let o : length (orderOf s) ≡ usedOf s = length-part 35 (usedOf s) (s .lost .tables) (omega (arith, z .tables)) in
@@ -262,8 +262,8 @@ holds-lost s w h =
     clauses-lost s
     record {
       s3 =
-          and-in (leb (countOf s) (roomOf s)) (leb (usedOf s) (framesOf s))
-          (le-leb (countOf s) (roomOf s) (omega (arith, w .count, w .room)))
+          and-in (leb (countOf s) (onlineSizeOf s)) (leb (usedOf s) (framesOf s))
+          (le-leb (countOf s) (onlineSizeOf s) (omega (arith, w .count, w .room)))
           (le-leb (usedOf s) (framesOf s) (omega (arith, w .used, w .frames)));
       s20 = h .live;
       s4 = h .seated .entries-within;
@@ -298,10 +298,10 @@ durable-again d l m h a =
       s2 =
           rw (
             eq-eqb (length (d .marks)) (12 + 8 * pagesOf (only d)) (z .marks),
-            eq-eqb (length (d .log)) (14 * spanOf (only d)) (z .log),
+            eq-eqb (length (d .log)) (14 * logSizeOf (only d)) (z .log),
             eq-eqb (length (d .stored)) (sizeOf (only d) * pagesOf (only d)) (z .stored),
             eq-eqb (length (m .tables)) (35 + framesOf (only d) + pagesOf (only d)) (a .tables),
-            eq-eqb (length (m .online)) (19 * roomOf (only d)) (a .online),
+            eq-eqb (length (m .online)) (19 * onlineSizeOf (only d)) (a .online),
             eq-eqb (length (m .pool)) (sizeOf (only d) * framesOf (only d)) (a .pool),
           );
       s3 = c .s3;

@@ -1,17 +1,17 @@
 -- Close on sound tables leaves sound tables: dirty numbers and log by the committed rows that are online. And a checkpoint, which is compacts and a close.
-use Prim.Native.Nat.{ℕ, zero, suc, _+_, _*_, _-_, _≤_, _<_}
+use Prim.Native.Nat.{ℕ, zero, suc, _+_, _-_, _≤_, _<_}
 use native.Mathlib.Omega.{arith}
 use mathlib.Core.Path.{_≡_, refl, sym, ap, _∙_}
 use mathlib.Core.Logic.{_⊎_, inl, inr}
 use mathlib.Core.Bool.{Bool, true, false, cond, not, _&&_, _||_}
 use mathlib.Core.List.{List, [], _∷_}
-use lib.ListN.{length, getD, drop}
+use lib.ListN.{getD, drop}
 use lib.Seq.{getD-drop}
 use lib.Dec.{eqb, leb, ltb}
 use borrow.Author.Tests.{eqb-true, eqb-false, leb-true, le-leb, ltb-true}
 use Rattle.word.specs.Word.{num}
 use Rattle.word.proofs.Tests.{and-both, and-in}
-use Rattle.record.specs.Rows.{rowAt, keep, any}
+use Rattle.record.specs.Rows.{rowAt, keep}
 use Rattle.record.specs.Record.{pageOf, ownerOf, numberOf, committed, committedOn, onPage, bodyOf, smallest, wellFormed}
 use Rattle.rules.specs.Lent.{Lent, Durable, sizeOf, pagesOf, lastOf, closedOf, loggedOf, firstOf, stampOf, dirtyOf, logOf, onlineOf}
 use Rattle.rules.specs.Sound.{every, between, same, sound}
@@ -19,15 +19,15 @@ use Rattle.rules.specs.Steps.{left, foldable, due, droppedBy, compacted, compac
 use Rattle.rules.proofs.Every.{meet, every-keep, every-kept-where}
 use Rattle.rules.proofs.Extremes.{hasNumber, numberAtMost, smallest-found, smallest-nothing}
 use Rattle.rules.proofs.Needed.{dropped-below}
-use Rattle.onlinecheck.proofs.Rows.{every-imp}
-use Rattle.onlinecheck.proofs.Laws.{formed-page}
+use Rattle.rules.proofs.Every.{every-imp}
+use Rattle.rules.proofs.Clauses.{formed-page}
 use Rattle.redo.proofs.Reader.{every-both}
 use Rattle.readback.proofs.Seen.{only, livesOf, Whole}
 use Rattle.readback.proofs.Lost.{reads-closed}
 use Rattle.readback.proofs.Marks.{marks-close, last-close, closed-close, logged-close, stamp-close, dirty-close}
 use Rattle.readback.proofs.Log.{log-close, log-zero-close, log-length-close}
 use Rattle.keeps.proofs.Tests.{every-drop, picked-every}
-use Rattle.keeps.proofs.Clauses.{ownedRight, inLog, stampBelow, HoldsIn, sound-durable, sound-sized, sound-whole, sound-holds, sound-by}
+use Rattle.keeps.proofs.Clauses.{ownedRight, inLog, stampBelow, HoldsIn, sound-durable, sound-whole, sound-holds, sound-by}
 use Rattle.keeps.proofs.Durables.{DurableHolds, durable-holds, holds-durable}
 use Rattle.keeps.proofs.Numbering.{rows-at}
 use Rattle.keeps.proofs.Commits.{owned-number, owned-later, if-committed}

@@ -11,14 +11,14 @@ use lib.Dec.{eqb, leb, ltb}
 use borrow.Author.Tests.{eqb-true, ltb-true, leb-true, lt-ltb, le-leb}
 use Rattle.word.proofs.Tests.{and-both, and-in}
 use Rattle.record.specs.Rows.{rowAt}
-use Rattle.record.specs.Record.{pageOf, ownerOf, numberOf, committed, ownedBy, bodyOf, wellFormed, numbered, numberRows, shareByte}
-use Rattle.table.proofs.Laws.{wide-keep, length-rows}
-use Rattle.rules.specs.Lent.{Lent, Durable, sizeOf, pagesOf, spanOf, lastOf, closedOf, loggedOf, firstOf, stampOf, dirtyOf, logOf, onlineOf}
+use Rattle.record.specs.Record.{pageOf, ownerOf, numberOf, committed, ownedBy, bodyOf, wellFormed, numbered, numberRows, free}
+use Rattle.record.proofs.Rows.{wide-keep, length-rows}
+use Rattle.rules.specs.Lent.{Lent, Durable, sizeOf, pagesOf, logSizeOf, lastOf, closedOf, loggedOf, firstOf, stampOf, dirtyOf, logOf, onlineOf}
 use Rattle.rules.specs.Sound.{every, pairs, between, same, apart, sound}
 use Rattle.rules.specs.Steps.{owned, committing}
 use Rattle.rules.proofs.Every.{every-set, every-keep}
-use Rattle.onlinecheck.proofs.Rows.{every-imp}
-use Rattle.onlinecheck.proofs.Laws.{formed-page}
+use Rattle.rules.proofs.Every.{every-imp}
+use Rattle.rules.proofs.Clauses.{formed-page}
 use Rattle.redo.proofs.View.{body-page, numbered-body, numberRows-bodies}
 use Rattle.redo.proofs.Numbered.{body-formed, numbered-committed, numbered-number, numbered-entered, entered-bytes}
 use Rattle.redo.proofs.Reader.{every-both}
@@ -70,11 +70,11 @@ last-apart : (a b : List ℕ) → committed b ≡ true → apart a b ≡ true
 unfolding apart
 last-apart a b h = go (committed a)
   where
-    go : (t : Bool) → (t || committed b || eqb (ownerOf a) (ownerOf b) || not (shareByte a b)) ≡ true
+    go : (t : Bool) → (t || committed b || eqb (ownerOf a) (ownerOf b) || free a b) ≡ true
     go true = refl
     go false = rw h
 
-module _ (s : Lent) (x : ℕ) (e : sound s ≡ true) (low : 1 ≤ x) (high : x ≤ 32) (space : loggedOf s + length (owned s x) ≤ spanOf s) (numbers : lastOf s + length (owned s x) ≤ 4294967295) where
+module _ (s : Lent) (x : ℕ) (e : sound s ≡ true) (low : 1 ≤ x) (high : x ≤ 32) (space : loggedOf s + length (owned s x) ≤ logSizeOf s) (numbers : lastOf s + length (owned s x) ≤ 4294967295) where
   abbrev after : Lent
   after = committing s x .lent
 
@@ -94,7 +94,7 @@ module _ (s : Lent) (x : ℕ) (e : sound s ≡ true) (low : 1 ≤ x) (high : x �
   holds = sound-holds s e
 
   logs : loggedOf s + k ≤ 4294967295
-  logs = omega (arith, sound-sized s e .span)
+  logs = omega (arith, sound-sized s e .log-size)
 
   last-on : lastOf after ≡ lastOf s + k
   last-on = last-commit s (durable .marks) x numbers logs

@@ -8,17 +8,16 @@ use mathlib.Core.List.{List, [], _∷_}
 use lib.ListN.{length, getD, drop, set}
 use lib.Seq.{getD-set-same, getD-set-other}
 use lib.Dec.{eqb, leb, ltb}
-use borrow.Author.Tests.{eqb-true, eqb-false, eq-eqb, ne-eqb, le-leb, not-true}
-use Rattle.word.proofs.Tests.{and-both}
+use borrow.Author.Tests.{eqb-true, eqb-false, eq-eqb, ne-eqb, le-leb}
 use Rattle.record.specs.Rows.{rowAt, rows, keep, consIf, any}
 use Rattle.record.specs.Record.{pageOf, numberOf, committed, applied, onPage, committedOn, gone, bodyOf, greatest, wellFormed}
-use Rattle.apply.proofs.Laws.{length-applied}
-use Rattle.rules.specs.Lent.{Lent, sizeOf, pagesOf, framesOf, lastOf, closedOf, loggedOf, firstOf, stampOf, dirtyOf, logOf, orderOf, entryOf, entriesOf, onlineOf, inFrame, frameOf, isDirty, cleanIn, pageIn}
+use Rattle.record.proofs.Changes.{length-applied}
+use Rattle.rules.specs.Lent.{Lent, sizeOf, pagesOf, framesOf, lastOf, closedOf, loggedOf, firstOf, stampOf, dirtyOf, orderOf, entryOf, entriesOf, onlineOf, inFrame, frameOf, isDirty, cleanIn, pageIn}
 use Rattle.rules.specs.Sound.{every, zeros, apart, same, sound}
 use Rattle.rules.specs.Steps.{freedOf, foldable, fromFrame, compactedPage, compactedEntry, compactedOrder, unfolded, compacted}
 use Rattle.rules.proofs.Every.{every-keep, every-kept-where, keep-within}
 use Rattle.rules.proofs.Extremes.{numberAtMost, greatest-most}
-use Rattle.onlinecheck.proofs.Rows.{every-imp}
+use Rattle.rules.proofs.Every.{every-imp}
 use Rattle.seats.proofs.Seated.{Seated}
 use Rattle.seats.proofs.Places.{clean-not-dirty, seated-below, seated-clean, seated-leave}
 use Rattle.seats.proofs.Loops.{any-kept, any-by}
@@ -33,7 +32,7 @@ use Rattle.keeps.proofs.Commits.{owned-number, owned-later, if-committe
 
 -- a page's committed records are gone, the others stay
 abbrev pub stays : ℕ → List ℕ → Bool
-stays p r = not (gone false 0 p r)
+stays p r = not (committedOn p r)
 
 -- a page's records are its committed ones and those that stay
 pub stays-count : (p : ℕ) (l : List (List ℕ)) → length (keep (committedOn p) l) + length (keep (onPage p) (keep (stays p) l)) ≡ length (keep (onPage p) l)
@@ -232,7 +231,7 @@ module _ (s : Lent) (p : ℕ) (e : sound s ≡ true) (m : p < pagesOf s) (last :
   pub sound-compact : sound (compacted s p .lent) ≡ true
   unfolding compacted
   sound-compact =
-      let r = reads-compacted s p reads (sound-sized s e .room) m in
+      let r = reads-compacted s p reads (sound-sized s e .online-size) m in
       sound-by (holds-durable (compacted s p .lent) compact-durable (r .areas)) r
       (record {
         seated = seated-after;

@@ -8,7 +8,7 @@ use lib.Dec.{eqb, leb}
 use borrow.Author.Tests.{eqb-true, eq-eqb, leb-true, le-leb}
 use Rattle.word.proofs.Tests.{and-both, and-in}
 use Rattle.record.specs.Record.{wellFormed}
-use Rattle.rules.specs.Lent.{Lent, sizeOf, pagesOf, framesOf, roomOf, spanOf, lastOf, closedOf, loggedOf, firstOf, stampOf, dirtyOf, logOf}
+use Rattle.rules.specs.Lent.{Lent, paramsOf, sizeOf, pagesOf, framesOf, onlineSizeOf, logSizeOf, lastOf, closedOf, loggedOf, firstOf, stampOf, dirtyOf, logOf}
 use Rattle.rules.specs.Shape.{Sized}
 use Rattle.rules.specs.Sound.{every, upTo, zeros, between, inRange, exactLengths, s1-parameters, s2-lengths, s3-logged, s16-logged, s18-first, s15-stamps, s17-s19-dirty, s7-log-records, s14-log-zero, soundDurable}
 use Rattle.rules.proofs.Every.{or-either, or-left, or-right}
@@ -20,12 +20,12 @@ use Rattle.keeps.proofs.Clauses.{DurableClauses, durable-clauses, claus
 pub record DurableHolds (s : Lent) : Type 0 where
   -- S1, S2
   pub fixed : length (s .durable .fixed) ≡ 20
-  pub range : inRange (sizeOf s) (pagesOf s) (framesOf s) (roomOf s) (spanOf s) ≡ true
+  pub range : inRange (paramsOf s) ≡ true
   pub marks : length (s .durable .marks) ≡ 12 + 8 * pagesOf s
-  pub log : length (s .durable .log) ≡ 14 * spanOf s
+  pub log : length (s .durable .log) ≡ 14 * logSizeOf s
   pub stored : length (s .durable .stored) ≡ sizeOf s * pagesOf s
   -- S3, S16, S18
-  pub logged : loggedOf s ≤ spanOf s
+  pub logged : loggedOf s ≤ logSizeOf s
   pub logged-last : loggedOf s ≤ lastOf s
   pub first : firstOf s ≤ closedOf s + 1
   -- S15
@@ -45,11 +45,11 @@ durable-holds s h =
     let k = and-both (leb (closedOf s) (lastOf s)) (upTo (λ (p : ℕ). leb (stampOf s p) (lastOf s)) (pagesOf s) 0) (c .s15) in
     record {
       fixed = z .fixed;
-      range = and-both (eqb (length (s .durable .fixed)) 20) (inRange (sizeOf s) (pagesOf s) (framesOf s) (roomOf s) (spanOf s)) (c .s1) .1;
+      range = and-both (eqb (length (s .durable .fixed)) 20) (inRange (paramsOf s)) (c .s1) .1;
       marks = z .marks;
       log = z .log;
       stored = z .stored;
-      logged = leb-true (loggedOf s) (spanOf s) (c .s3);
+      logged = leb-true (loggedOf s) (logSizeOf s) (c .s3);
       logged-last = leb-true (loggedOf s) (lastOf s) (c .s16);
       first = leb-true (firstOf s) (closedOf s + 1) (c .s18);
       closed-last = leb-true (closedOf s) (lastOf s) (k .0);
@@ -70,17 +70,17 @@ unfolding s1-parameters s2-lengths exactLengths s3-logged s16-logged s18-first s
 holds-durable s d a =
     clauses-durable s
     (record {
-      s1 = and-in (eqb (length (s .durable .fixed)) 20) (inRange (sizeOf s) (pagesOf s) (framesOf s) (roomOf s) (spanOf s)) (eq-eqb (length (s .durable .fixed)) 20 (d .fixed)) (d .range);
+      s1 = and-in (eqb (length (s .durable .fixed)) 20) (inRange (paramsOf s)) (eq-eqb (length (s .durable .fixed)) 20 (d .fixed)) (d .range);
       s2 =
           rw (
             eq-eqb (length (s .durable .marks)) (12 + 8 * pagesOf s) (d .marks),
-            eq-eqb (length (s .durable .log)) (14 * spanOf s) (d .log),
+            eq-eqb (length (s .durable .log)) (14 * logSizeOf s) (d .log),
             eq-eqb (length (s .durable .stored)) (sizeOf s * pagesOf s) (d .stored),
             eq-eqb (length (s .lost .tables)) (35 + framesOf s + pagesOf s) (a .tables),
-            eq-eqb (length (s .lost .online)) (19 * roomOf s) (a .online),
+            eq-eqb (length (s .lost .online)) (19 * onlineSizeOf s) (a .online),
             eq-eqb (length (s .lost .pool)) (sizeOf s * framesOf s) (a .pool),
           );
-      s3 = le-leb (loggedOf s) (spanOf s) (d .logged);
+      s3 = le-leb (loggedOf s) (logSizeOf s) (d .logged);
       s16 = le-leb (loggedOf s) (lastOf s) (d .logged-last);
       s18 = le-leb (firstOf s) (closedOf s + 1) (d .first);
       s15 =

@@ -10,7 +10,7 @@ use lib.Dec.{eqb}
 use Rattle.word.proofs.Tests.{and-both, and-in}
 use Rattle.record.specs.Rows.{rowAt, rows, keep, consIf, any}
 use Rattle.record.specs.Record.{onPage, ownedBy, bodyOf, wellFormed, numbered, numberRows}
-use Rattle.table.proofs.Laws.{Wide, none, one, wide-keep}
+use Rattle.record.proofs.Rows.{Wide, none, one, wide-keep}
 use Rattle.rules.specs.Sound.{every, pairs}
 use Rattle.rules.proofs.Every.{every-keep}
 use Rattle.redo.proofs.View.{SameBody, SameBodies, none as no-bodies, one as one-body, body-page}

@@ -12,22 +12,22 @@ use Rattle.word.proofs.Laws.{length-put}
 use Rattle.word.proofs.Puts.{num-put}
 use Rattle.record.specs.Part.{withPart}
 use Rattle.record.specs.Rows.{keep, any}
-use Rattle.record.specs.Record.{pageOf, committed, committedOn, gone, greatest, smallest}
+use Rattle.record.specs.Record.{pageOf, committed, committedOn, greatest, smallest}
 use Rattle.record.proofs.Parts.{length-with}
-use Rattle.rules.specs.Lent.{Lent, sizeOf, pagesOf, roomOf, lastOf, loggedOf, stampAt, dirtyAt, onlineOf}
+use Rattle.rules.specs.Lent.{Lent, sizeOf, pagesOf, onlineSizeOf, lastOf, loggedOf, stampAt, dirtyAt, onlineOf}
 use Rattle.rules.specs.Sound.{every, sound}
 use Rattle.rules.specs.Steps.{left, foldable, due, compacted, compactStep, lowered, droppedBy, closed, afterPages, checkpointed}
 use Rattle.rules.proofs.Every.{every-keep, every-kept-where}
 use Rattle.rules.proofs.Extremes.{smallest-nothing}
 use Rattle.rules.proofs.Needed.{unfolded-open}
-use Rattle.onlinecheck.proofs.Laws.{formed-page}
+use Rattle.rules.proofs.Clauses.{formed-page}
 use Rattle.redo.proofs.Views.{keep-none}
 use Rattle.redo.proofs.Reader.{every-both, none-each}
 use Rattle.seats.proofs.Loops.{any-kept}
 use Rattle.readback.proofs.Seen.{Whole, whole}
 use Rattle.readback.proofs.Tables.{pagesBelow}
 use Rattle.readback.proofs.Lost.{reads-compacted, reads-closed}
-use Rattle.readback.proofs.Marks.{length-lowered}
+use Rattle.rules.proofs.Kept.{length-lowered}
 use Rattle.keeps.proofs.Tests.{every-all}
 use Rattle.keeps.proofs.Clauses.{sound-sized, sound-whole, sound-holds}
 
@@ -80,8 +80,8 @@ module _ (s : Lent) (e : sound s ≡ true) (maxAge : ℕ) where
   unfolding compactStep compacted
   sweep-one t j k w = go (due t j 1 maxAge) refl
     where
-      few : roomOf t ≤ 512
-      few = rw (w .fixed) (sound-sized s e .room)
+      few : onlineSizeOf t ≤ 512
+      few = rw (w .fixed) (sound-sized s e .online-size)
 
       there : j < pagesOf t
       there = rw (w .fixed) k
@@ -93,8 +93,8 @@ module _ (s : Lent) (e : sound s ≡ true) (maxAge : ℕ) where
             reads = whole r;
             fixed = w .fixed;
             marks = length-put 4 (t .durable .marks) (stampAt j) (greatest 0 (foldable t j)) ∙ w .marks;
-            below = ap (λ (l : List (List ℕ)). pagesBelow (pagesOf s) l) (r .online-read) ∙ every-keep (λ (x : List ℕ). not (gone false 0 j x)) (λ (x : List ℕ). ltb (pageOf x) (pagesOf s)) (onlineOf t) (w .below);
-            swept = ap (λ (l : List (List ℕ)). every (past (suc j)) l) (r .online-read) ∙ every-kept-where (λ (x : List ℕ). not (gone false 0 j x)) (past j) (past (suc j)) (past-more j) (onlineOf t) (w .swept);
+            below = ap (λ (l : List (List ℕ)). pagesBelow (pagesOf s) l) (r .online-read) ∙ every-keep (λ (x : List ℕ). not (committedOn j x)) (λ (x : List ℕ). ltb (pageOf x) (pagesOf s)) (onlineOf t) (w .below);
+            swept = ap (λ (l : List (List ℕ)). every (past (suc j)) l) (r .online-read) ∙ every-kept-where (λ (x : List ℕ). not (committedOn j x)) (past j) (past (suc j)) (past-more j) (onlineOf t) (w .swept);
             still = ap (λ (l : List (List ℕ)). keep uncommitted l) (r .online-read) ∙ unfolded-open t j ∙ w .still;
           }
       go false d =

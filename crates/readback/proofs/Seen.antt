@@ -5,8 +5,8 @@ use mathlib.Core.Bool.{true}
 use mathlib.Core.List.{List, []}
 use lib.ListN.{length, drop}
 use Rattle.record.specs.Part.{part}
-use Rattle.table.proofs.Laws.{Wide}
-use Rattle.rules.specs.Lent.{Lent, Durable, sizeOf, pagesOf, framesOf, roomOf, countOf, usedOf, orderOf, entriesOf, onlineOf}
+use Rattle.record.proofs.Rows.{Wide}
+use Rattle.rules.specs.Lent.{Lent, Durable, sizeOf, pagesOf, framesOf, onlineSizeOf, countOf, usedOf, orderOf, entriesOf, onlineOf}
 use Rattle.rules.specs.Sound.{zeros}
 
 -- the durable part alone, as lent bytes
@@ -20,13 +20,13 @@ livesOf s = part 3 32 (s .lost .tables)
 -- the lengths of the lost areas
 pub record Areas (s : Lent) : Type 0 where
   pub tables : length (s .lost .tables) ≡ 35 + framesOf s + pagesOf s
-  pub online : length (s .lost .online) ≡ 19 * roomOf s
+  pub online : length (s .lost .online) ≡ 19 * onlineSizeOf s
   pub pool : length (s .lost .pool) ≡ sizeOf s * framesOf s
 
 pub record Reads (s : Lent) (order lives entries : List ℕ) (online : List (List ℕ)) : Type 0 where
   pub areas : Areas s
   pub count : countOf s ≡ length online
-  pub room : length online ≤ roomOf s
+  pub room : length online ≤ onlineSizeOf s
   pub used : usedOf s ≡ length order
   pub frames : length order ≤ framesOf s
   pub order-read : orderOf s ≡ order

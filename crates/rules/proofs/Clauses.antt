@@ -1,39 +1,27 @@
 -- Soundness as its clauses: the two parts, the zeros behind the rows, and S17 and S19, which soundness walks together, as the two clauses of 01.
-use Prim.Native.Nat.{ℕ, zero, suc, _+_, _*_}
+use Prim.Native.Nat.{ℕ, _*_}
 use mathlib.Core.Path.{_≡_, refl, sym, ap, _∙_}
 use mathlib.Core.Bool.{Bool, true, false, _&&_, _||_}
+use mathlib.Core.List.{List}
 use lib.ListN.{drop}
 use lib.Dec.{eqb, leb}
 use Rattle.word.proofs.Tests.{and-both}
+use Rattle.record.specs.Record.{wellFormed}
 use Rattle.rules.specs.Lent.{Lent, pagesOf, dirtyOf, closedOf, firstOf, loggedOf, countOf}
-use Rattle.rules.specs.Sound.{upTo, zeros, sound, soundDurable, soundLost, s1-parameters, s2-lengths, s3-logged, s16-logged, s18-first, s15-stamps, s17-dirty, s19-first, s17-s19-dirty, s7-log-records, s14-log-zero, s3-counts, s20-live, s4-entries, s5-frame-once, s6-order, s14-order-zero, s7-online-records, s8-owners, s14-online-zero, s10-in-log, s11-above-stamp, s9-number-once, s12-dirty, s13-apart}
+use Rattle.rules.specs.Shape.{pageBelow}
+use Rattle.rules.specs.Sound.{every, upTo, zeros, sound, soundDurable, soundLost, s1-parameters, s2-lengths, s3-logged, s16-logged, s18-first, s15-stamps, s17-dirty, s19-first, s17-s19-dirty, s7-log-records, s14-log-zero, s3-counts, s20-live, s4-entries, s5-frame-once, s6-order, s14-order-zero, s7-online-records, s8-owners, s14-online-zero, s10-in-log, s11-above-stamp, s9-number-once, s12-dirty, s13-apart}
+use Rattle.rules.proofs.Every.{every-imp}
+use Rattle.rules.proofs.Walks.{upTo-alike, upTo-both}
 
 spread : (z x y : Bool) → (z || (x && y)) ≡ ((z || x) && (z || y))
 spread true x y = refl
 spread false x y = refl
 
-across : (x y u v : Bool) → ((x && y) && (u && v)) ≡ ((x && u) && (y && v))
-across true true true v = refl
-across true true false v = refl
-across true false true v = refl
-across true false false v = refl
-across false y u v = refl
-
-pub upTo-same : (c d : ℕ → Bool) → ((p : ℕ) → c p ≡ d p) → (n i : ℕ) → upTo c n i ≡ upTo d n i
-unfolding upTo
-upTo-same c d h zero i = refl
-upTo-same c d h (suc n) i = λ j. h i j && upTo-same c d h n (i + 1) j
-
-pub upTo-both : (a b : ℕ → Bool) (n i : ℕ) → upTo (λ (p : ℕ). a p && b p) n i ≡ (upTo a n i && upTo b n i)
-unfolding upTo
-upTo-both a b zero i = refl
-upTo-both a b (suc n) i = ap (λ (t : Bool). (a i && b i) && t) (upTo-both a b n (i + 1)) ∙ across (a i) (b i) (upTo a n (i + 1)) (upTo b n (i + 1))
-
 pub both-dirty : (s : Lent) → s17-s19-dirty s ≡ (s19-first s && s17-dirty s)
 unfolding s17-dirty s19-first s17-s19-dirty
 both-dirty s =
-    upTo-same (λ (p : ℕ). eqb (dirtyOf s p) 0 || (leb (firstOf s) (dirtyOf s p) && leb (dirtyOf s p) (closedOf s))) (λ (p : ℕ). (eqb (dirtyOf s p) 0 || leb (firstOf s) (dirtyOf s p)) && (eqb (dirtyOf s p) 0 || leb (dirtyOf s p) (closedOf s)))
-    (λ p. spread (eqb (dirtyOf s p) 0) (leb (firstOf s) (dirtyOf s p)) (leb (dirtyOf s p) (closedOf s))) (pagesOf s) 0
+    upTo-alike (λ (p : ℕ). eqb (dirtyOf s p) 0 || (leb (firstOf s) (dirtyOf s p) && leb (dirtyOf s p) (closedOf s))) (λ (p : ℕ). (eqb (dirtyOf s p) 0 || leb (firstOf s) (dirtyOf s p)) && (eqb (dirtyOf s p) 0 || leb (dirtyOf s p) (closedOf s)))
+    (pagesOf s) 0 (λ p _ _. spread (eqb (dirtyOf s p) 0) (leb (firstOf s) (dirtyOf s p)) (leb (dirtyOf s p) (closedOf s)))
     ∙ upTo-both (λ (p : ℕ). eqb (dirtyOf s p) 0 || leb (firstOf s) (dirtyOf s p)) (λ (p : ℕ). eqb (dirtyOf s p) 0 || leb (dirtyOf s p) (closedOf s)) (pagesOf s) 0
 
 -- the two parts
@@ -79,3 +67,11 @@ module _ (s : Lent) where
       let stamp : to-stamp ≡ true = and-both to-stamp (s9-number-once s) once .0 in
       let log : to-log ≡ true = and-both to-log (s11-above-stamp s) stamp .0 in
       and-both to-owners (s14-online-zero s) (and-both to-zeros (s10-in-log s) log .0) .1
+
+-- S7: a row that is well formed is of a page of the store
+pub formed-below : (size pages : ℕ) (r : List ℕ) → wellFormed size pages r ≡ true → pageBelow pages r ≡ true
+unfolding wellFormed
+formed-below size pages r k = and-both _ _ (and-both _ _ (and-both _ _ (and-both _ _ k .0) .0) .0) .0
+
+pub formed-page : (size pages : ℕ) (l : List (List ℕ)) → every (wellFormed size pages) l ≡ true → every (pageBelow pages) l ≡ true
+formed-page size pages l h = every-imp (wellFormed size pages) (pageBelow pages) (formed-below size pages) l h

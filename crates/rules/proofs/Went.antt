@@ -8,15 +8,16 @@ use lib.ListN.{length}
 use lib.Dec.{eqb, leb, ltb}
 use borrow.Author.Tests.{ltb-true, ltb-false, leb-true, eqb-true, not-false}
 use Rattle.word.proofs.Tests.{and-both}
-use Rattle.record.specs.Record.{isLength}
+use Rattle.record.specs.Record.{isLength, rowOf}
 use Rattle.record.proofs.Laws.{length-most}
 use Rattle.rules.specs.declared.Refusal.the-variants.{NotSound, Argument, OnlineFull}
 use Rattle.rules.specs.declared.Bad.the-variants.{Parameter, Lent as LentLength}
 use Rattle.rules.specs.declared.Verdict.the-variants.{Go}
-use Rattle.rules.specs.Lent.{Lent, sizeOf, pagesOf, roomOf, spanOf, lastOf, loggedOf, countOf, entryOf, onlineOf, inFrame}
+use Rattle.rules.specs.declared.Params.{Params}
+use Rattle.rules.specs.Lent.{Lent, sizeOf, pagesOf, onlineSizeOf, logSizeOf, lastOf, loggedOf, countOf, entryOf, onlineOf, inFrame}
 use Rattle.rules.specs.Sound.{sound, soundDurable, inRange, exactLengths}
 use Rattle.rules.specs.Steps.{owned, enteringAll}
-use Rattle.rules.specs.Calls.{Test, _when_, unsound, isNumber, isLive, held, beginRefusals, judgeBegin, readRefusals, judgeRead, updateRefusals, judgeUpdate, commitRefusals, judgeCommit, abortRefusals, judgeAbort, evictRefusals, judgeEvict, compactRefusals, judgeCompact, judgeClose, checkpointRefusals, judgeCheckpoint, judgeRestart, judgeFormat}
+use Rattle.rules.specs.Calls.{Test, _when_, unsound, isNumber, isLive, heldToRead, heldToUpdate, beginRefusals, judgeBegin, readRefusals, judgeRead, updateRefusals, judgeUpdate, commitRefusals, judgeCommit, abortRefusals, judgeAbort, evictRefusals, judgeEvict, compactRefusals, judgeCompact, judgeClose, checkpointRefusals, judgeCheckpoint, judgeRestart, judgeFormat}
 use Rattle.rules.proofs.Verdicts.{testAt, failed}
 
 pub begin-went : (s : Lent) (x : ℕ) → judgeBegin s x ≡ Go → (sound s ≡ true) × (isNumber x ≡ true) × (isLive (s .lost .tables) x ≡ false)
@@ -33,12 +34,12 @@ evict-went s p e =
     let f = failed (unsound s ∷ evictRefusals (pagesOf s) (entryOf s p) p) e in
     (not-false (sound s) (f 0), ltb-true p (pagesOf s) (not-false (ltb p (pagesOf s)) (f 1)), not-false (inFrame (entryOf s p)) (f 2))
 
-pub commit-went : (s : Lent) (x : ℕ) → judgeCommit s x ≡ Go → (sound s ≡ true) × (isNumber x ≡ true) × (loggedOf s + length (owned s x) ≤ spanOf s) × (lastOf s + length (owned s x) ≤ 4294967295)
+pub commit-went : (s : Lent) (x : ℕ) → judgeCommit s x ≡ Go → (sound s ≡ true) × (isNumber x ≡ true) × (loggedOf s + length (owned s x) ≤ logSizeOf s) × (lastOf s + length (owned s x) ≤ 4294967295)
 unfolding judgeCommit commitRefusals
 commit-went s x e =
     let k : ℕ = length (owned s x) in
-    let f = failed (unsound s ∷ commitRefusals (spanOf s) (loggedOf s) (lastOf s) (isLive (s .lost .tables)) k x) e in
-    (not-false (sound s) (f 0), not-false (isNumber x) (f 1), ltb-false (spanOf s) (loggedOf s + k) (f 3), ltb-false 4294967295 (lastOf s + k) (f 4))
+    let f = failed (unsound s ∷ commitRefusals (logSizeOf s) (loggedOf s) (lastOf s) (isLive (s .lost .tables)) k x) e in
+    (not-false (sound s) (f 0), not-false (isNumber x) (f 1), ltb-false (logSizeOf s) (loggedOf s + k) (f 3), ltb-false 4294967295 (lastOf s + k) (f 4))
 
 module _ (s : Lent) (n x p offset w : ℕ) (e : judgeRead s n x p offset w ≡ Go) where
   abbrev read-tests : List Test
@@ -58,22 +59,22 @@ module _ (s : Lent) (n x p offset w : ℕ) (e : judgeRead s n x p offset w ≡ G
   )
 
   -- whose read it is, and that nobody else holds a byte of it
-  pub read-whose : (isNumber x ≡ true) × (isLive (s .lost .tables) x ≡ true) × (held (onlineOf s) x p offset w ≡ false)
+  pub read-whose : (isNumber x ≡ true) × (isLive (s .lost .tables) x ≡ true) × (heldToRead (onlineOf s) x p offset w ≡ false)
   unfolding readRefusals
   read-whose = (not-false (isNumber x) (none-held 2), not-false (isLive (s .lost .tables) x) (none-held 6), none-held 7)
 
 module _ (s : Lent) (x p offset w kind v : ℕ) (e : judgeUpdate s x p offset w kind v ≡ Go) where
   abbrev update-tests : List Test
-  update-tests = unsound s ∷ updateRefusals (sizeOf s) (pagesOf s) (roomOf s) (countOf s) (isLive (s .lost .tables)) (onlineOf s) x p offset w kind v
+  update-tests = unsound s ∷ updateRefusals (sizeOf s) (pagesOf s) (onlineSizeOf s) (countOf s) (isLive (s .lost .tables)) (onlineOf s) x p offset w kind v
 
   no-test : (i : ℕ) → testAt update-tests i ≡ false
   unfolding judgeUpdate
   no-test = failed update-tests e
 
-  pub update-went : (sound s ≡ true) × (p < pagesOf s) × (offset + w ≤ sizeOf s) × (w ≤ 8) × (countOf s < roomOf s) × (isNumber x ≡ true) × (kind ≤ 1)
+  pub update-went : (sound s ≡ true) × (p < pagesOf s) × (offset + w ≤ sizeOf s) × (w ≤ 8) × (countOf s < onlineSizeOf s) × (isNumber x ≡ true) × (kind ≤ 1)
   unfolding updateRefusals
   update-went =
-      let free : countOf s + 1 ≤ roomOf s = ltb-false (roomOf s) (countOf s + 1) (no-test 9) in (
+      let free : countOf s + 1 ≤ onlineSizeOf s = ltb-false (onlineSizeOf s) (countOf s + 1) (no-test 9) in (
         not-false (sound s) (no-test 0),
         ltb-true p (pagesOf s) (not-false (ltb p (pagesOf s)) (no-test 1)),
         leb-true (offset + w) (sizeOf s) (not-false (leb (offset + w) (sizeOf s)) (no-test 4)),
@@ -84,7 +85,7 @@ module _ (s : Lent) (x p offset w kind v : ℕ) (e : judgeUpdate s x p offset w 
       )
 
   -- whose update it is, and what it writes
-  pub update-whose : (isLength w ≡ true) × (v < 256 ^ w) × (isLive (s .lost .tables) x ≡ true) × (held (onlineOf s) x p offset w ≡ false)
+  pub update-whose : (isLength w ≡ true) × (v < 256 ^ w) × (isLive (s .lost .tables) x ≡ true) × (heldToUpdate (onlineOf s) (rowOf p offset w kind v x) ≡ false)
   unfolding updateRefusals
   update-whose = (
     not-false (isLength w) (no-test 3),
@@ -107,17 +108,19 @@ pub close-went : (s : Lent) → judgeClose s ≡ Go → sound s ≡ true
 unfolding judgeClose
 close-went s e = not-false (sound s) (failed (unsound s ∷ []) e 0)
 
-pub restart-went : (s : Lent) → judgeRestart s ≡ Go → (soundDurable s ≡ true) × (length (enteringAll s) ≤ roomOf s)
+pub restart-went : (s : Lent) → judgeRestart s ≡ Go → (soundDurable s ≡ true) × (length (enteringAll s) ≤ onlineSizeOf s)
 unfolding judgeRestart
 restart-went s e =
-    let f = failed (NotSound when not (soundDurable s) ∷ OnlineFull when ltb (roomOf s) (length (enteringAll s)) ∷ []) e in
-    (not-false (soundDurable s) (f 0), ltb-false (roomOf s) (length (enteringAll s)) (f 1))
+    let f = failed (NotSound when not (soundDurable s) ∷ OnlineFull when ltb (onlineSizeOf s) (length (enteringAll s)) ∷ []) e in
+    (not-false (soundDurable s) (f 0), ltb-false (onlineSizeOf s) (length (enteringAll s)) (f 1))
 
-pub format-went : (s : Lent) (size pages frames room span : ℕ) → judgeFormat s size pages frames room span ≡ Go
-    → (inRange size pages frames room span ≡ true) × (length (s .durable .fixed) ≡ 20) × (exactLengths s size pages frames room span ≡ true)
+pub format-went : (s : Lent) (g : Params) (last : ℕ) → judgeFormat s g last ≡ Go
+    → (inRange g ≡ true) × (length (s .durable .fixed) ≡ 20) × (exactLengths s g ≡ true) × (last ≤ 4294967295)
 unfolding judgeFormat
-format-went s size pages frames room span e =
-    let fits : Bool = eqb (length (s .durable .fixed)) 20 && exactLengths s size pages frames room span in
-    let f = failed (Argument Parameter when not (inRange size pages frames room span) ∷ Argument LentLength when not fits ∷ []) e in
-    let d = and-both (eqb (length (s .durable .fixed)) 20) (exactLengths s size pages frames room span) (not-false fits (f 1)) in
-    (not-false (inRange size pages frames room span) (f 0), eqb-true (length (s .durable .fixed)) 20 (d .0), d .1)
+format-went s g last e =
+    let ranged : Bool = inRange g && leb last 4294967295 in
+    let fits : Bool = eqb (length (s .durable .fixed)) 20 && exactLengths s g in
+    let f = failed (Argument Parameter when not ranged ∷ Argument LentLength when not fits ∷ []) e in
+    let c = and-both (inRange g) (leb last 4294967295) (not-false ranged (f 0)) in
+    let d = and-both (eqb (length (s .durable .fixed)) 20) (exactLengths s g) (not-false fits (f 1)) in
+    (c .0, eqb-true (length (s .durable .fixed)) 20 (d .0), d .1, leb-true last 4294967295 (c .1))

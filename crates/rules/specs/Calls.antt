@@ -5,7 +5,8 @@ use mathlib.Core.List.{List, [], _∷_}
 use lib.ListN.{length, getD}
 use lib.Dec.{eqb, leb, ltb}
 use Rattle.record.specs.Rows.{any}
-use Rattle.record.specs.Record.{pageOf, ownerOf, committed, offsetOf, lengthOf, isLength, rowOf}
+use Rattle.record.specs.Record.{pageOf, ownerOf, committed, offsetOf, lengthOf, isLength, rowOf, overlaps}
+use Rattle.rules.specs.declared.Params.{Params}
 use Rattle.rules.specs.declared.Bad.{Bad}
 use Rattle.rules.specs.declared.Bad.the-variants.{Page, Number, Length, Place, Value, Kind, Parameter, Lent as LentLength}
 use Rattle.rules.specs.declared.Refusal.{Refusal}
@@ -14,8 +15,8 @@ use Rattle.rules.specs.declared.Verdict.{Verdict}
 use Rattle.rules.specs.declared.Verdict.the-variants.{Go, Refuse}
 use Rattle.rules.specs.declared.Answer.{Answer}
 use Rattle.rules.specs.declared.Answer.the-variants.{Done, NotDue, Refused}
-use Rattle.rules.specs.Lent.{Lent, sizeOf, pagesOf, roomOf, spanOf, lastOf, loggedOf, countOf, liveAt, entryOf, onlineOf, inFrame}
-use Rattle.rules.specs.Sound.{sound, soundDurable, between, inRange, exactLengths}
+use Rattle.rules.specs.Lent.{Lent, sizeOf, pagesOf, onlineSizeOf, logSizeOf, lastOf, loggedOf, countOf, liveAt, entryOf, onlineOf, inFrame}
+use Rattle.rules.specs.Sound.{sound, soundDurable, between, inRange, exactLengths, apart}
 use Rattle.rules.specs.Steps.{Left, begun, readStep, readBytes, updated, owned, committing, aborted, evicted, due, compacted, closed, checkpointed, enteringAll, restarted, formatted}
 
 -- the answer, the lent bytes and read's buffer afterwards
@@ -78,12 +79,16 @@ judgeBegin s x = verdictOf (unsound s ∷ beginRefusals (isLive (s .lost .tables
 unfoldable pub beginCall : Lent → ℕ → Outcome
 beginCall s x = settled (judgeBegin s x) s [] (doneWith (begun s x) [])
 
--- refusal 6: a row of another live owner that shares a byte with those asked for. Rows of live owners are the uncommitted ones (S8)
+-- refusal 6, of a read: a row of another live owner has a byte of those asked for. Rows of live owners are the uncommitted ones (S8)
 unfoldable pub clashes : ℕ → ℕ → ℕ → ℕ → List ℕ → Bool
-clashes x p offset w r = not (committed r) && not (eqb (ownerOf r) x) && eqb (pageOf r) p && ltb (offsetOf r) (offset + w) && ltb offset (offsetOf r + lengthOf r)
+clashes x p offset w r = not (committed r) && not (eqb (ownerOf r) x) && overlaps p offset w r
 
-abbrev pub held : List (List ℕ) → ℕ → ℕ → ℕ → ℕ → Bool
-held online x p offset w = any (clashes x p offset w) online
+abbrev pub heldToRead : List (List ℕ) → ℕ → ℕ → ℕ → ℕ → Bool
+heldToRead online x p offset w = any (clashes x p offset w) online
+
+-- and of an update: the row that it would append is not apart from one that is there (S13)
+abbrev pub heldToUpdate : List (List ℕ) → List ℕ → Bool
+heldToUpdate online r = any (λ (a : List ℕ). not (apart a r)) online
 
 -- read: "transaction, page, offset, length 1 to page size"; n is the buffer's length
 unfoldable pub readRefusals : ℕ → ℕ → (ℕ → Bool) → List (List ℕ) → ℕ → ℕ → ℕ → ℕ → ℕ → List Test
@@ -94,7 +99,7 @@ readRefusals size pages live online n x p offset w =
     ∷ Argument Place when not (leb (offset + w) size)
     ∷ ShortBuffer when ltb n w
     ∷ NotLive when not (live x)
-    ∷ Held when held online x p offset w
+    ∷ Held when heldToRead online x p offset w
     ∷ []
 
 unfoldable pub judgeRead : Lent → ℕ → ℕ → ℕ → ℕ → ℕ → Verdict
@@ -113,12 +118,12 @@ updateRefusals size pages room m live online x p offset w kind v =
     ∷ Argument Value when not (ltb v (256 ^ w))
     ∷ Argument Kind when not (leb kind 1)
     ∷ NotLive when not (live x)
-    ∷ Held when held online x p offset w
+    ∷ Held when heldToUpdate online (rowOf p offset w kind v x)
     ∷ OnlineFull when noRoom room m 1
     ∷ []
 
 unfoldable pub judgeUpdate : Lent → ℕ → ℕ → ℕ → ℕ → ℕ → ℕ → Verdict
-judgeUpdate s x p offset w kind v = verdictOf (unsound s ∷ updateRefusals (sizeOf s) (pagesOf s) (roomOf s) (countOf s) (isLive (s .lost .tables)) (onlineOf s) x p offset w kind v)
+judgeUpdate s x p offset w kind v = verdictOf (unsound s ∷ updateRefusals (sizeOf s) (pagesOf s) (onlineSizeOf s) (countOf s) (isLive (s .lost .tables)) (onlineOf s) x p offset w kind v)
 
 unfoldable pub updateCall : Lent → ℕ → ℕ → ℕ → ℕ → ℕ → ℕ → Outcome
 updateCall s x p offset w kind v = settled (judgeUpdate s x p offset w kind v) s [] (doneWith (updated s (rowOf p offset w kind v x)) [])
@@ -133,7 +138,7 @@ commitRefusals span n last live k x =
     ∷ []
 
 unfoldable pub judgeCommit : Lent → ℕ → Verdict
-judgeCommit s x = verdictOf (unsound s ∷ commitRefusals (spanOf s) (loggedOf s) (lastOf s) (isLive (s .lost .tables)) (length (owned s x)) x)
+judgeCommit s x = verdictOf (unsound s ∷ commitRefusals (logSizeOf s) (loggedOf s) (lastOf s) (isLive (s .lost .tables)) (length (owned s x)) x)
 
 unfoldable pub commitCall : Lent → ℕ → Outcome
 commitCall s x = settled (judgeCommit s x) s [] (doneWith (committing s x) [])
@@ -193,18 +198,18 @@ checkpointCall s minDel maxAge = settled (judgeCheckpoint s minDel maxAge) s [] 
 
 -- restart: "more records enter than it holds"
 unfoldable pub judgeRestart : Lent → Verdict
-judgeRestart s = verdictOf (NotSound when not (soundDurable s) ∷ OnlineFull when ltb (roomOf s) (length (enteringAll s)) ∷ [])
+judgeRestart s = verdictOf (NotSound when not (soundDurable s) ∷ OnlineFull when ltb (onlineSizeOf s) (length (enteringAll s)) ∷ [])
 
 unfoldable pub restartCall : Lent → Outcome
 restartCall s = settled (judgeRestart s) s [] (doneWith (restarted s) [])
 
--- format: "an argument out of its range, … or (format) a lent length wrong"
-unfoldable pub judgeFormat : Lent → ℕ → ℕ → ℕ → ℕ → ℕ → Verdict
-judgeFormat s size pages frames room span =
+-- format: "an argument out of its range, … or (format) a lent length wrong"; "last log number L | 0 to 4,294,967,295"
+unfoldable pub judgeFormat : Lent → Params → ℕ → Verdict
+judgeFormat s g last =
     verdictOf
-    (Argument Parameter when not (inRange size pages frames room span)
-    ∷ Argument LentLength when not (eqb (length (s .durable .fixed)) 20 && exactLengths s size pages frames room span)
+    (Argument Parameter when not (inRange g && leb last 4294967295)
+    ∷ Argument LentLength when not (eqb (length (s .durable .fixed)) 20 && exactLengths s g)
     ∷ [])
 
-unfoldable pub formatCall : Lent → ℕ → ℕ → ℕ → ℕ → ℕ → ℕ → Outcome
-formatCall s size pages frames room span last = settled (judgeFormat s size pages frames room span) s [] (doneWith (formatted s size pages frames room span last) [])
+unfoldable pub formatCall : Lent → Params → ℕ → Outcome
+formatCall s g last = settled (judgeFormat s g last) s [] (doneWith (formatted s g last) [])

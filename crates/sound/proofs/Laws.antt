@@ -3,7 +3,7 @@ use Prim.Native.Nat.{ℕ, _≤_}
 use mathlib.Core.Path.{_≡_, refl, sym, ap, _∙_}
 use mathlib.Core.Bool.{Bool, true, false, not, _&&_}
 use Rattle.word.proofs.Tests.{and-both}
-use Rattle.rules.specs.Lent.{Lent, lentOf, sizeOf, pagesOf, framesOf, roomOf, spanOf, lastOf, loggedOf, countOf}
+use Rattle.rules.specs.Lent.{Lent, lentOf, sizeOf, pagesOf, framesOf, onlineSizeOf, logSizeOf, lastOf, loggedOf, countOf}
 use Rattle.rules.specs.Sound.{soundDurable, soundLost, sound, s3-counts, s20-live, s4-entries, s5-frame-once, s6-order, s14-order-zero, s7-online-records, s8-owners, s14-online-zero, s10-in-log, s11-above-stamp, s9-number-once, s12-dirty, s13-apart}
 use Rattle.rules.specs.Shape.{Sized, Shaped}
 use Rattle.rules.proofs.Clauses.{sound-durable, sound-lost}
@@ -27,12 +27,12 @@ nine true a b c d e f g h = refl
 nine false a b c d e f g h = refl
 
 abbrev tablesOf : Lent → Bool
-tablesOf s = tablesTest (s .lost .tables) (pagesOf s) (framesOf s) (roomOf s)
+tablesOf s = tablesTest (s .lost .tables) (pagesOf s) (framesOf s) (onlineSizeOf s)
 
 abbrev rowsOf : Lent → Bool
 rowsOf s = onlineTest (s .lost .online) (countOf s) (s .durable .log) (loggedOf s) (s .durable .marks) (s .lost .tables) (sizeOf s) (pagesOf s) (framesOf s) (lastOf s)
 
-pub lost-is : (s : Lent) → (tablesTest (s .lost .tables) (pagesOf s) (framesOf s) (roomOf s) && onlineTest (s .lost .online) (countOf s) (s .durable .log) (loggedOf s) (s .durable .marks) (s .lost .tables) (sizeOf s) (pagesOf s) (framesOf s) (lastOf s)) ≡ soundLost s
+pub lost-is : (s : Lent) → (tablesTest (s .lost .tables) (pagesOf s) (framesOf s) (onlineSizeOf s) && onlineTest (s .lost .online) (countOf s) (s .durable .log) (loggedOf s) (s .durable .marks) (s .lost .tables) (sizeOf s) (pagesOf s) (framesOf s) (lastOf s)) ≡ soundLost s
 unfolding soundLost
 lost-is s =
     (λ i. tables-is s i && online-is s i)
@@ -47,10 +47,10 @@ sound-shaped s e =
     record {
       sized = durable-sized s (sound-durable s e);
       logged = durable-logged s (sound-durable s e) .0;
-      count = count-within (s .lost .tables) (pagesOf s) (framesOf s) (roomOf s) (sound-tables s e);
-      used = used-within (s .lost .tables) (pagesOf s) (framesOf s) (roomOf s) (sound-tables s e);
-      entries = entries-within (s .lost .tables) (pagesOf s) (framesOf s) (roomOf s) (sound-tables s e);
-      order = order-within (s .lost .tables) (pagesOf s) (framesOf s) (roomOf s) (sound-tables s e);
+      count = count-within (s .lost .tables) (pagesOf s) (framesOf s) (onlineSizeOf s) (sound-tables s e);
+      used = used-within (s .lost .tables) (pagesOf s) (framesOf s) (onlineSizeOf s) (sound-tables s e);
+      entries = entries-within (s .lost .tables) (pagesOf s) (framesOf s) (onlineSizeOf s) (sound-tables s e);
+      order = order-within (s .lost .tables) (pagesOf s) (framesOf s) (onlineSizeOf s) (sound-tables s e);
     }
 
 pub sound-logged : (s : Lent) → sound s ≡ true → loggedOf s ≤ lastOf s

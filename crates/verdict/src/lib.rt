@@ -10,6 +10,7 @@ ghost use Rattle.rules.specs.Lent.{entryAt};
 ghost use Rattle.rules.specs.Areas.{before};
 ghost use Rattle.rules.specs.Calls.{judgeBegin, judgeRead, judgeUpdate, judgeCommit, judgeAbort, judgeEvict, judgeCompact, judgeClose, judgeCheckpoint, judgeRestart, judgeFormat};
 use rules::Bad;
+use rules::Params;
 use rules::Refusal;
 use rules::Verdict;
 
@@ -102,7 +103,7 @@ pub fn judge_compact(
     if !sound::is_sound(fixed, marks, log, stored, tables, online, pool) {
         return Verdict::Refuse(Refusal::NotSound);
     }
-    let given = durable::params_of(fixed);
+    let given = layout::params_of(fixed);
     judge::may_compact(given.pages as usize, p, min_del, max_age)
 }
 
@@ -121,7 +122,7 @@ pub fn judge_evict(
     if !sound::is_sound(fixed, marks, log, stored, tables, online, pool) {
         return Verdict::Refuse(Refusal::NotSound);
     }
-    let given = durable::params_of(fixed);
+    let given = layout::params_of(fixed);
     let entry = entry_of(tables, given.frames as usize, p);
     judge::may_evict(given.pages as usize, entry, p)
 }
@@ -145,7 +146,7 @@ pub fn judge_read(
     if !sound::is_sound(fixed, marks, log, stored, tables, online, pool) {
         return Verdict::Refuse(Refusal::NotSound);
     }
-    let given = durable::params_of(fixed);
+    let given = layout::params_of(fixed);
     let m = word::load(tables, 0, 2) as usize;
     judge::may_read(
         given.size as usize,
@@ -181,12 +182,12 @@ pub fn judge_update(
     if !sound::is_sound(fixed, marks, log, stored, tables, online, pool) {
         return Verdict::Refuse(Refusal::NotSound);
     }
-    let given = durable::params_of(fixed);
+    let given = layout::params_of(fixed);
     let m = word::load(tables, 0, 2) as usize;
     judge::may_update(
         given.size as usize,
         given.pages as usize,
-        given.room as usize,
+        given.online as usize,
         tables,
         online,
         m,
@@ -214,7 +215,7 @@ pub fn judge_commit(
     if !sound::is_sound(fixed, marks, log, stored, tables, online, pool) {
         return Verdict::Refuse(Refusal::NotSound);
     }
-    let given = durable::params_of(fixed);
+    let given = layout::params_of(fixed);
     let m = word::load(tables, 0, 2) as usize;
     let n = word::load(marks, 8, 4) as usize;
     let last = word::load(marks, 0, 4);
@@ -222,7 +223,7 @@ pub fn judge_commit(
         return Verdict::Refuse(Refusal::Argument(Bad::Number));
     }
     let k = table::count_owned(online, m, x as u8);
-    judge::may_commit(given.span as usize, n, last, tables, k, x)
+    judge::may_commit(given.log as usize, n, last, tables, k, x)
 }
 
 pub fn judge_restart(
@@ -239,9 +240,9 @@ pub fn judge_restart(
     if !durable::sound_durable(fixed, marks, log, stored, tables, online, pool) {
         return Verdict::Refuse(Refusal::NotSound);
     }
-    let given = durable::params_of(fixed);
+    let given = layout::params_of(fixed);
     let k = restart::count_entering(fixed, marks, log, stored, tables, online, pool);
-    if (given.room as usize) < k {
+    if (given.online as usize) < k {
         return Verdict::Refuse(Refusal::OnlineFull);
     }
     Verdict::Go
@@ -255,37 +256,16 @@ pub fn judge_format(
     tables: &[u8],
     online: &[u8],
     pool: &[u8],
-    size: u32,
-    pages: u32,
-    frames: u32,
-    room: u32,
-    span: u32,
+    g: Params,
+    last: u32,
 ) -> Verdict
-    ensures { λ r. ⌜ r ≡ judgeFormat (before fixed marks log stored tables online pool) size pages frames room span ⌝ }
+    ensures { λ r. ⌜ r ≡ judgeFormat (before fixed marks log stored tables online pool) g last ⌝ }
 {
-    if !durable::in_range(
-        size as u64,
-        pages as u64,
-        frames as u64,
-        room as u64,
-        span as u64,
-    ) {
+    // every number of 32 bits is in L's range
+    if !durable::in_range(g) {
         return Verdict::Refuse(Refusal::Argument(Bad::Parameter));
     }
-    if !lengths(
-        fixed,
-        marks,
-        log,
-        stored,
-        tables,
-        online,
-        pool,
-        size,
-        pages,
-        frames,
-        room,
-        span,
-    ) {
+    if !lengths(fixed, marks, log, stored, tables, online, pool, g) {
         return Verdict::Refuse(Refusal::Argument(Bad::Lent));
     }
     Verdict::Go
@@ -312,29 +292,13 @@ fn lengths(
     tables: &[u8],
     online: &[u8],
     pool: &[u8],
-    size: u32,
-    pages: u32,
-    frames: u32,
-    room: u32,
-    span: u32,
+    g: Params,
 ) -> bool
-    requires { ⌜ inRange size pages frames room span ≡ true ⌝ }
-    ensures { λ r. ⌜ r ≡ (eqb (length (now (fixed .entry))) 20 && exactLengths (before fixed marks log stored tables online pool) size pages frames room span) ⌝ }
+    requires { ⌜ inRange g ≡ true ⌝ }
+    ensures { λ r. ⌜ r ≡ (eqb (length (now (fixed .entry))) 20 && exactLengths (before fixed marks log stored tables online pool) g) ⌝ }
 {
     if fixed.len() != 20 {
         return false;
     }
-    durable::exact_lengths(
-        marks,
-        log,
-        stored,
-        tables,
-        online,
-        pool,
-        size as u64,
-        pages as u64,
-        frames as u64,
-        room as u64,
-        span as u64,
-    )
+    durable::exact_lengths(fixed, marks, log, stored, tables, online, pool, g)
 }

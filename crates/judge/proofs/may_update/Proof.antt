@@ -1,17 +1,19 @@
 -- `judge::may_update` meets its contract: each return is the first of `updateRefusals` that holds, or none.
 use Rattle.word.proofs.Tests.{so}
 use Prim.Native.Nat.{ℕ}
-use mathlib.Core.Path.{_≡_, refl, ap}
+use native.Mathlib.Omega.{arith}
+use mathlib.Core.Path.{_≡_, refl, sym, ap, _∙_}
 use mathlib.Core.Bool.{not}
 use borrow.Author.Tests.{lt-ltb, le-ltb, le-leb, lt-leb}
 use denote.Ref.{now}
 use lib.ListN.{drop}
 use Rattle.record.specs.Rows.{rows}
+use Rattle.record.specs.Record.{rowOf}
 use Rattle.rules.specs.declared.Verdict.{Verdict}
 use Rattle.rules.specs.declared.Verdict.the-variants.{Go}
-use Rattle.rules.specs.Calls.{isLive, verdictOf, updateRefusals}
-use Rattle.rules.proofs.Verdicts.{refused, passed, number-most}
-use Rattle.judge.proofs.Laws.{turned, same}
+use Rattle.rules.specs.Calls.{isLive, heldToRead, heldToUpdate, verdictOf, updateRefusals}
+use Rattle.rules.proofs.Verdicts.{refused, passed, number-least, number-most}
+use Rattle.judge.proofs.Laws.{turned, same, held-apart}
 use borrow.Author.Needs.{needs}
 use Rattle.judge.proofs.may_update.Statement.{statement}
 use Rattle.judge.proofs.may_update.Tie as tie
@@ -45,13 +47,22 @@ past6 : (k : tie.Else6) (v : Verdict) → let s = k .before .before .before .bef
 unfolding verdictOf updateRefusals
 past6 k v e = past5 (k .before) v (passed _ _ _ _ (ap not (le-leb _ _ (k .if6 .left))) e)
 
+-- past the tests of its arguments, what holds the bytes asked for is what the row would not be apart from
+asked : (k : tie.Else6) → let a = k .before .before .before .before .before .before .before .before .before .before .before .args in let l = rows 19 (a .m) (now (a .online)) 0 in heldToRead l (a .x) (a .p) (a .offset) (a .w) ≡ heldToUpdate l (rowOf (a .p) (a .offset) (a .w) (a .kind) (a .v) (a .x))
+asked k =
+    let s = k .before .before .before .before .before .before .before .before .before .before .before in
+    let a = s .args in
+    held-apart (a .p) (a .offset) (a .w) (a .kind) (a .v) (a .x)
+    (omega (arith, k .before .before .before .before .before .before .before .before .if1 .left, s .pre)) (omega (arith, k .before .before .before .if4 .left, s .pre))
+    (number-least _ (so _ _ (k .before .before .before .before .before .before .before .is-number .ensures) (k .before .before .before .before .before .before .if2 .left))) (rows 19 (a .m) (now (a .online)) 0)
+
 past7 : (k : tie.Else7) (v : Verdict) → let s = k .before .before .before .before .before .before .before .before .before .before .before .before .before in v ≡ from 7 s → v ≡ from 0 s
 unfolding verdictOf updateRefusals
 past7 k v e = past6 (k .before .before) v (passed _ _ _ _ (turned _ _ _ (k .before .is-live .ensures) (k .if7 .left)) e)
 
 past8 : (k : tie.Else8) (v : Verdict) → let s = k .before .before .before .before .before .before .before .before .before .before .before .before .before .before .before in v ≡ from 8 s → v ≡ from 0 s
 unfolding verdictOf updateRefusals
-past8 k v e = past7 (k .before .before) v (passed _ _ _ _ (same _ _ _ (k .before .is-held .ensures) (k .if8 .left)) e)
+past8 k v e = past7 (k .before .before) v (passed _ _ _ _ (sym (asked (k .before .before .before .before)) ∙ same _ _ _ (k .before .is-held .ensures) (k .if8 .left)) e)
 
 past9 : (k : tie.Else9) (v : Verdict) → let s = k .before .before .before .before .before .before .before .before .before .before .before .before .before .before .before .before in v ≡ Go → v ≡ from 0 s
 unfolding verdictOf updateRefusals
@@ -109,7 +120,7 @@ is-held-requires c κs = search needs
 
 returns-8 : tie.Need-returns-8
 unfolding verdictOf updateRefusals
-returns-8 c = past7 (c .before .before) _ (refused _ _ _ (same _ _ _ (c .before .is-held .ensures) (c .if8 .taken)))
+returns-8 c = past7 (c .before .before) _ (refused _ _ _ (sym (asked (c .before .before .before .before)) ∙ same _ _ _ (c .before .is-held .ensures) (c .if8 .taken)))
 
 add-if9 : tie.Need-add-if9
 add-if9 c = search needs

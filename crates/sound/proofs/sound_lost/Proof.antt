@@ -25,7 +25,7 @@ lost-at-requires c κs =
 
 returns : tie.Need-returns
 returns c =
-    (rw (c .before .params-of .ensures .0, c .before .params-of .ensures .1, c .before .params-of .ensures .2, c .before .params-of .ensures .3) at (c .lost-at .ensures))
+    (rw (c .before .params-of .ensures .size, c .before .params-of .ensures .pages, c .before .params-of .ensures .frames, c .before .params-of .ensures .online) at (c .lost-at .ensures))
     ∙ lost-is (lent (c .before .before .before .before .before .before .before .before .before))
 
 pub sound-lost-spec : {M : Type 1} → statement M

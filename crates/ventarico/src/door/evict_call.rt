@@ -24,7 +24,7 @@ pub extern "C" fn ventarico_evict(
     match v {
         Verdict::Refuse(why) => crate::answer::refused(why),
         Verdict::Go => {
-            let given = durable::params_of(fixed);
+            let given = layout::params_of(fixed);
             steps::evict::evict(tables, given.frames as usize, PageNo(page as usize));
             crate::answer::done(0, 0, 0)
         }

@@ -74,7 +74,7 @@ unfolding verdictOf judgeCommit
 returns-3 c =
     passed _ _ _ _ (past (c .before .before .before .before .before .before .before))
     (rw (
-      c .before .before .before .before .before .before .params-of .ensures .4,
+      c .before .before .before .before .before .before .params-of .ensures .log,
       c .before .before .before .before .load2 .ensures .0,
       c .before .before .before .load3 .ensures .0,
       c .before .count-owned .ensures .0,

@@ -42,7 +42,7 @@ may-compact-requires c κs = search needs
 
 returns-2 : tie.Need-returns-2
 unfolding verdictOf judgeCompact
-returns-2 c = passed _ _ _ _ (past (c .before .before)) (rw (c .before .params-of .ensures .1) at (c .may-compact .ensures))
+returns-2 c = passed _ _ _ _ (past (c .before .before)) (rw (c .before .params-of .ensures .pages) at (c .may-compact .ensures))
 
 pub judge-compact-spec : {M : Type 1} → statement M
 judge-compact-spec =

@@ -48,7 +48,7 @@ returns-2 : tie.Need-returns-2
 unfolding verdictOf judgeEvict
 returns-2 c =
     passed _ _ _ _ (past (c .before .before .before))
-    (rw (c .before .before .params-of .ensures .1, c .before .entry-of .ensures, c .before .before .params-of .ensures .2) at (c .may-evict .ensures))
+    (rw (c .before .before .params-of .ensures .pages, c .before .entry-of .ensures, c .before .before .params-of .ensures .frames) at (c .may-evict .ensures))
 
 pub judge-evict-spec : {M : Type 1} → statement M
 judge-evict-spec =

@@ -48,7 +48,7 @@ returns-2 : tie.Need-returns-2
 unfolding verdictOf judgeRead
 returns-2 c =
     passed _ _ _ _ (past (c .before .before .before))
-    (rw (c .before .before .params-of .ensures .0, c .before .before .params-of .ensures .1, c .before .load .ensures .0) at (c .may-read .ensures))
+    (rw (c .before .before .params-of .ensures .size, c .before .before .params-of .ensures .pages, c .before .load .ensures .0) at (c .may-read .ensures))
 
 pub judge-read-spec : {M : Type 1} → statement M
 judge-read-spec =

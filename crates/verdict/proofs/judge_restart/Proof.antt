@@ -47,13 +47,13 @@ returns-2 : tie.Need-returns-2
 unfolding verdictOf judgeRestart
 returns-2 c =
     passed _ _ _ _ (past (c .before .before .before))
-    (refused _ _ _ (lt-ltb _ _ (subst₂ (λ (a b : ℕ). a < b) (c .before .before .params-of .ensures .3) (c .before .count-entering .ensures) (c .if2 .taken))))
+    (refused _ _ _ (lt-ltb _ _ (subst₂ (λ (a b : ℕ). a < b) (c .before .before .params-of .ensures .online) (c .before .count-entering .ensures) (c .if2 .taken))))
 
 returns-3 : tie.Need-returns-3
 unfolding verdictOf judgeRestart
 returns-3 c =
     passed _ _ _ _ (past (c .before .before .before))
-    (passed _ _ _ _ (le-ltb _ _ (subst₂ (λ (a b : ℕ). a ≤ b) (c .before .count-entering .ensures) (c .before .before .params-of .ensures .3) (c .if2 .left))) refl)
+    (passed _ _ _ _ (le-ltb _ _ (subst₂ (λ (a b : ℕ). a ≤ b) (c .before .count-entering .ensures) (c .before .before .params-of .ensures .online) (c .if2 .left))) refl)
 
 pub judge-restart-spec : {M : Type 1} → statement M
 judge-restart-spec =

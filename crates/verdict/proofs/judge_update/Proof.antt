@@ -48,7 +48,7 @@ returns-2 : tie.Need-returns-2
 unfolding verdictOf judgeUpdate
 returns-2 c =
     passed _ _ _ _ (past (c .before .before .before))
-    (rw (c .before .before .params-of .ensures .0, c .before .before .params-of .ensures .1, c .before .before .params-of .ensures .3, c .before .load .ensures .0) at (c .may-update .ensures))
+    (rw (c .before .before .params-of .ensures .size, c .before .before .params-of .ensures .pages, c .before .before .params-of .ensures .online, c .before .load .ensures .0) at (c .may-update .ensures))
 
 pub judge-update-spec : {M : Type 1} → statement M
 judge-update-spec =

@@ -57,7 +57,7 @@ evict-requires c κs =
     let j = k .before .before in
     let w = evict-went (lent j) (start j .args .page) (went k) in
     let shape = sound-shaped (lent j) (w .0) in
-    let frames = c .before .params-of .ensures .2 in
+    let frames = c .before .params-of .ensures .frames in
     (omega (arith, frames, w .1), omega (arith, frames), omega (arith, frames), rw frames (w .2))
 
 done-requires : tie.Need-done-requires
@@ -81,7 +81,7 @@ returns-2 c =
     let k = c .before .before .before .before .before .before in
     let j = k .before .before in
     let s = lent j in
-    let tables = rw (c .before .before .before .before .before .params-of .ensures .2) at (c .before .before .before .evict .ensures) in
+    let tables = rw (c .before .before .before .before .before .params-of .ensures .frames) at (c .before .before .before .evict .ensures) in
     rw (went k) (record { reply = c .done .ensures; lent = λ i. lostNow s (tables i) (s .lost .online) (s .lost .pool) })
 
 pub ventarico-evict-spec : {M : Type 1} → statement M
