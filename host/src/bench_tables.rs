@@ -3,8 +3,10 @@
 
 use crate::bench::{clock, in_turn, measure, micros, Cost, Middle, Rounds, Stores, Trial};
 use crate::bench_stores::{log_growth, online_growth, rebuilds, Shape, Situation, STORES};
+use crate::bench_wal;
 use crate::calls::Store;
 use crate::flash;
+use crate::layouts;
 use crate::ledger::{transactions, Layout, Ledger, FRAMES, KS, LAYOUTS, POLICY, SPREAD, TRANSACTIONS};
 use crate::plot::{svg, Line, Panel};
 use crate::progress::Progress;
@@ -89,7 +91,8 @@ impl<S: Store + Clone> Bench<S> {
 
     /// A read of an evicted page with 512 records: the check, the stored page, and every record applied in its place.
     pub fn rebuild(&mut self) -> Result<String, String> {
-        let mut text = "| Records | Archive, µs | Twin, µs | Ratio | Middle half |\n|---|---|---|---|---|\n".to_string();
+        let mut text =
+            "| Records | Archive, µs | Twin, µs | Ratio | Middle half |\n|---|---|---|---|---|\n".to_string();
         let situations = rebuilds();
         let mut rounds = vec![Rounds::new(); situations.len()];
         for _ in 0..PASSES {
@@ -179,6 +182,7 @@ impl<S: Store + Clone> Bench<S> {
             two.run_all(&some);
             judge(same(&one, &two, k));
         }
+        judge(bench_wal::table(layouts::log_writer(), true).map(drop));
         (passed, wrong)
     }
 }
@@ -215,6 +219,7 @@ pub fn command<S: Store + Clone>(store: &S, linked: bool, words: &[String]) -> O
             write(file, &svg(&panels, 2, "across: rows in the table"))?;
             Ok(text)
         }),
+        ["wal"] => bench_wal::table(layouts::log_writer(), false),
         ["flash"] => Ok(flash::tables(store)),
         ["flash", file] => {
             write(file, &svg(&flash::panels(store), 3, "across: frames; k = 4")).map(|()| flash::tables(store))

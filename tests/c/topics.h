@@ -10,5 +10,7 @@ void soundness(void);
 void ranges(void);
 void clerk(void);
 void wrappers(void);
+void journal(void);
+void wal(void);
 
 #endif

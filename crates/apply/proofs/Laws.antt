@@ -4,15 +4,13 @@ use native.Mathlib.Omega.{arith}
 use native.Mathlib.Nat.{pow-suc}
 use mathlib.Core.Path.{_≡_, refl, sym, ap, _∙_}
 use mathlib.Core.Bool.{Bool, true, false, cond, _&&_, and-false}
-use mathlib.Core.List.{List, [], _∷_}
+use mathlib.Core.List.{List}
 use lib.ListN.{length, set}
 use lib.Arith.{mod-mul, digits-div, digits-mod}
 use lib.Dec.{eqb, leb}
 use borrow.Author.Tests.{leb-true, leb-false, le-leb, lt-leb, eq-eqb, ne-eqb}
 use Rattle.word.specs.Word.{num, put}
-use Rattle.word.proofs.Laws.{length-put}
-use Rattle.word.proofs.Tests.{and-both}
-use Rattle.record.specs.Rows.{rowAt, rows, keep, consIf}
+use Rattle.record.specs.Rows.{rowAt, rows, keep}
 use Rattle.record.specs.Record.{pageOf, offsetOf, lengthOf, kindOf, valueOf, ownerOf, changed, change, apply, applied, chosen}
 use Rattle.record.proofs.Changes.{room-both, applied-keep}
 

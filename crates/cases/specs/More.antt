@@ -5,7 +5,7 @@ use mathlib.Core.List.{List, [], _∷_, map}
 use lib.ListN.{replicate}
 use Rattle.rules.specs.Lent.{Lent, lentOf, given}
 use Rattle.cases.specs.Play.{Act, play}
-use Rattle.cases.specs.Play.Event.{Begin, Commit, Abort, Evict, Read, Update, Checkpoint, Restart, Loss, Format, Stored, Last, Closed, Logged, Online, Order, Stamp, Entry}
+use Rattle.cases.specs.Play.Act.{Begin, Commit, Abort, Evict, Read, Update, Checkpoint, Restart, Loss, Format, Stored, Last, Closed, Logged, Online, Order, Stamp, Entry}
 use Rattle.cases.specs.Small.{Case, _gives_, done, blank}
 
 -- "pages read 0, 1, 0, 2: page 1 is dropped"; an evict touches nobody

@@ -6,7 +6,7 @@ use mathlib.Core.List.{List, [], _∷_, _++_, map}
 use lib.ListN.{replicate}
 use Rattle.rules.specs.Lent.{Lent, lentOf, given}
 use Rattle.cases.specs.Play.{Act, play}
-use Rattle.cases.specs.Play.Event.{Begin, Commit, Abort, Evict, Read, Update, Compact, Close, Restart, Loss, Format, Stored, Last, Closed, Logged, Online, Tables, Rows, Stamp, Dirty, Entry}
+use Rattle.cases.specs.Play.Act.{Begin, Commit, Abort, Evict, Read, Update, Compact, Close, Restart, Loss, Format, Stored, Last, Closed, Logged, Online, Tables, Rows, Stamp, Dirty, Entry}
 
 -- seven areas of the right lengths for the small store; format is the first call
 unfoldable pub blank : Lent

@@ -1,16 +1,16 @@
 -- The marks of pages with committed rows; and the state after the first j compactions: at the start, a turn, at the end; and close after the last.
-use Prim.Native.Nat.{ℕ, suc, _+_, _*_, _-_, _≤_, _<_}
+use Prim.Native.Nat.{ℕ, suc, _+_, _*_, _≤_, _<_}
 use native.Mathlib.Omega.{arith}
 use native.Mathlib.Numerals.{add-one}
 use mathlib.Core.Path.{_≡_, refl, sym, ap, subst, _∙_}
 use mathlib.Core.Bool.{Bool, true, false, cond, _&&_}
 use mathlib.Core.List.{List, [], _∷_}
-use lib.ListN.{length, getD, set, replicate, length-set, length-replicate, getD-replicate}
+use lib.ListN.{length, getD, set, replicate, length-replicate}
 use lib.Seq.{set-out}
 use lib.Dec.{eqb}
 use borrow.Author.Tests.{eq-eqb, ne-eqb}
 use Rattle.word.specs.Word.{num}
-use Rattle.record.specs.Rows.{rowAt, rows, consIf, keep, any}
+use Rattle.record.specs.Rows.{rows, consIf, keep, any}
 use Rattle.record.specs.Record.{pageOf, ownerOf, committed, onPage, committedOn}
 use Rattle.rules.specs.Lent.{Lent, pagesOf, lastOf, loggedOf, countOf, onlineOf}
 use Rattle.rules.specs.Shape.{Shaped}

@@ -1,7 +1,7 @@
 -- Compact keeps the shape of the lent tables, L, n and what is fixed.
 use Prim.Native.Nat.{ℕ, _+_, _*_, _/_, _≤_, _<_}
 use native.Mathlib.Omega.{arith}
-use mathlib.Core.Path.{_≡_, refl, ap, _∙_}
+use mathlib.Core.Path.{_≡_, ap, _∙_}
 use mathlib.Core.Bool.{Bool, true, false, cond, not}
 use mathlib.Core.List.{List, [], _∷_}
 use lib.ListN.{length, getD, take, set, length-set}
@@ -19,7 +19,7 @@ use Rattle.record.proofs.Changes.{length-applied}
 use Rattle.record.proofs.Rows.{keep-length, length-rows, wide-all, wide-keep, rows-table, length-kept-table}
 use Rattle.order.specs.Order.{without}
 use Rattle.order.proofs.Laws.{length-without}
-use Rattle.rules.specs.Lent.{Lent, sizeOf, pagesOf, framesOf, onlineSizeOf, lastOf, loggedOf, countOf, usedOf, stampAt, orderOf, entryAt, entryOf, entriesOf, onlineOf, inFrame, frameOf, cleanIn, pageIn, withPage, withOrder, withCount}
+use Rattle.rules.specs.Lent.{Lent, sizeOf, pagesOf, framesOf, onlineSizeOf, countOf, usedOf, stampAt, orderOf, entryAt, entryOf, entriesOf, onlineOf, inFrame, frameOf, cleanIn, pageIn, withPage, withOrder, withCount}
 use Rattle.rules.specs.Sound.{every}
 use Rattle.rules.specs.Shape.{Shaped}
 use Rattle.rules.specs.Steps.{due, foldable, fromFrame, compactedPage, compactedEntry, compactedOrder, unfolded, compacted, compactStep}

@@ -1,4 +1,4 @@
--- Laws of the turns of the checking loops, of the ranges and the lengths, and what the durable part's soundness gives.
+-- Laws of the turns of the checking loops, and what each check of the durable part found.
 use Prim.Native.Nat.{ℕ, zero, suc, _+_, _*_, _-_, _%_, _^_, _≤_, _<_}
 use native.Mathlib.Omega.{arith}
 use native.Mathlib.Numerals.{add-one}
@@ -10,20 +10,18 @@ use lib.ListN.{length, getD, take, drop, length-drop, drop-of-length-le}
 use lib.Seq.{drop-cons, take-all}
 use lib.Dec.{eqb, leb, ltb, leb·suc-suc}
 use borrow.Author.Tests.{eqb-true, eqb-false, leb-true, eq-eqb, ne-eqb, le-leb, lt-leb, lt-ltb, le-ltb, ltb-true, ltb-false}
-use Rattle.word.proofs.Tests.{and-both, and-three, and-five, and-six, and-nine, among-four, so, not-so}
-use Rattle.record.specs.Rows.{rowAt, rows}
+use Rattle.word.proofs.Tests.{and-both, and-three, so, not-so}
+use Rattle.record.specs.Rows.{rows}
 use Rattle.record.proofs.Laws.{at-length}
 use Rattle.record.specs.Record.{pageOf, offsetOf, lengthOf, kindOf, valueOf, isLength, wellFormed}
 use Rattle.word.specs.Word.{num}
 use Rattle.rules.specs.declared.Params.{Params}
-use Rattle.rules.specs.Lent.{Lent, paramsOf, sizeOf, pagesOf, framesOf, onlineSizeOf, logSizeOf, lastOf, loggedOf, logOf, dirtyAt}
-use Rattle.rules.specs.Sound.{every, upTo, zeros, between, isPageSize, inRange, exactLengths, s1-parameters, s2-lengths, s3-logged, s16-logged, s18-first, s15-stamps, s17-s19-dirty, s7-log-records, s14-log-zero, soundDurable}
-use Rattle.rules.specs.Shape.{Sized}
+use Rattle.rules.specs.Lent.{Lent, dirtyAt}
+use Rattle.rules.specs.Sound.{every, upTo, zeros, between, inRange, exactLengths, s1-parameters, s2-lengths, s3-logged, s16-logged, s18-first, s15-stamps, s17-s19-dirty, s7-log-records, s14-log-zero, soundDurable}
 use Rattle.rules.proofs.Walks.{upTo-alike, upTo-both}
 use Rattle.durable.specs.Limits.{placesOf, mostValues}
 use Rattle.durable.specs.Marks.{isRecord, soundCounts, numberWithin, soundStamps, soundDirty, dirtyFrom, dirtyWithin, soundDirties, soundMarks}
 use Rattle.layout.specs.Read.{ParamsRead}
-use Rattle.durable.specs.Ranges.{Ranged}
 
 -- a loop that keeps the greatest of bytes that are to be zero: a turn, where the byte is greater and where it is not, and the end
 pub most-new : (a b m : ℕ) → m ≡ b → a < b → eqb m 0 ≡ (eqb a 0 && eqb b 0)
@@ -200,59 +198,9 @@ module _ (marks log : List ℕ) (size pages logSize last closed n : ℕ) (el : l
       unfolding soundMarks
       marks-log j k = rw (← el, ← ek, ← en, so _ _ counted h, so _ _ stamped i, so _ _ dirtied j) k
 
--- the ranges as bounds
-between-bounds : (low n high : ℕ) → between low n high ≡ true → (low ≤ n) × (n ≤ high)
-between-bounds low n high h =
-    let e = and-both (leb low n) (leb n high) h in
-    (leb-true low n (e .0), leb-true n high (e .1))
-
-pub ranged : (g : Params) → inRange g ≡ true → Ranged g
-unfolding inRange isPageSize
-ranged g h =
-    let e = and-five (isPageSize (g .size)) (between 1 (g .pages) 1024) (between 1 (g .frames) 64) (between 1 (g .online) 512) (between 1 (g .log) 2048) h in
-    let s = among-four (λ (n : ℕ). (512 ≤ n) × (n ≤ 4096)) (g .size) 512 1024 2048 4096 (e .0) (omega arith, omega arith) (omega arith, omega arith) (omega arith, omega arith) (omega arith, omega arith) in
-    let p = between-bounds 1 (g .pages) 1024 (e .1) in
-    let f = between-bounds 1 (g .frames) 64 (e .2) in
-    let o = between-bounds 1 (g .online) 512 (e .3) in
-    let l = between-bounds 1 (g .log) 2048 (e .4) in
-    record {
-      size-least = s .0;
-      size-most = s .1;
-      pages-least = p .0;
-      pages-most = p .1;
-      frames-least = f .0;
-      frames-most = f .1;
-      online-least = o .0;
-      online-most = o .1;
-      log-least = l .0;
-      log-most = l .1;
-    }
-
 -- an area of pages or frames stays small
 pub area-small : (size n : ℕ) → size ≤ 4096 → n ≤ 1024 → size * n ≤ 4194304
 area-small size n h k = mul-le-mul {n₁ = size} {m₁ = n} {n₂ = 4096} {m₂ = 1024} h k
-
--- the six lengths that `exact_lengths` found
-pub lengths-each : (s : Lent) (g : Params) → exactLengths s g ≡ true → (length (s .durable .marks) ≡ 12 + 8 * g .pages) × (length (s .durable .log) ≡ 14 * g .log) × (length (s .durable .stored) ≡ g .size * g .pages) × (length (s .lost .tables) ≡ 35 + g .frames + g .pages) × (length (s .lost .online) ≡ 19 * g .online) × (length (s .lost .pool) ≡ g .size * g .frames)
-unfolding exactLengths
-lengths-each s g h =
-    let e =
-    and-six (eqb (length (s .durable .marks)) (12 + 8 * g .pages)) (eqb (length (s .durable .log)) (14 * g .log)) (eqb (length (s .durable .stored)) (g .size * g .pages))
-    (eqb (length (s .lost .tables)) (35 + g .frames + g .pages)) (eqb (length (s .lost .online)) (19 * g .online)) (eqb (length (s .lost .pool)) (g .size * g .frames)) h
-    in (
-      eqb-true (length (s .durable .marks)) (12 + 8 * g .pages) (e .0),
-      eqb-true (length (s .durable .log)) (14 * g .log) (e .1),
-      eqb-true (length (s .durable .stored)) (g .size * g .pages) (e .2),
-      eqb-true (length (s .lost .tables)) (35 + g .frames + g .pages) (e .3),
-      eqb-true (length (s .lost .online)) (19 * g .online) (e .4),
-      eqb-true (length (s .lost .pool)) (g .size * g .frames) (e .5),
-    )
-
--- the two that `sound_marks` asks for
-pub lengths-marks : (s : Lent) (g : Params) {r : Bool} → r ≡ exactLengths s g → not r ≡ false → (length (s .durable .marks) ≡ 12 + 8 * g .pages) × (length (s .durable .log) ≡ 14 * g .log)
-lengths-marks s g f h =
-    let e = lengths-each s g (so _ _ f h) in
-    (e .0, e .1)
 
 -- `sound_durable`: what each check found
 pub durable-fixed : (s : Lent) → (length (s .durable .fixed) ≡ 20 → ⊥) → false ≡ soundDurable s
@@ -281,43 +229,3 @@ module _ (s : Lent) (g : Params) (fixed : length (s .durable .fixed) ≡ 20) (re
       pub durable-marks : {x : Bool} → not t ≡ false → x ≡ soundMarks (s .durable .marks) (s .durable .log) (g .size) (g .pages) (g .log) → x ≡ soundDurable s
       unfolding soundDurable soundMarks s3-logged s16-logged s18-first s15-stamps s17-s19-dirty s7-log-records s14-log-zero
       durable-marks i e = rw (first-clause true (so _ _ within h), second-clause true (so _ _ exact i), ← read .size, ← read .pages, ← read .log) e
-
--- what a sound durable part gives
-durable-clauses : (s : Lent) → soundDurable s ≡ true → (s1-parameters s ≡ true) × (s2-lengths s ≡ true) × (s3-logged s ≡ true) × (s16-logged s ≡ true) × (s18-first s ≡ true) × (s15-stamps s ≡ true) × (s17-s19-dirty s ≡ true) × (s7-log-records s ≡ true) × (s14-log-zero s ≡ true)
-unfolding soundDurable
-durable-clauses s h = and-nine (s1-parameters s) (s2-lengths s) (s3-logged s) (s16-logged s) (s18-first s) (s15-stamps s) (s17-s19-dirty s) (s7-log-records s) (s14-log-zero s) h
-
-pub durable-sized : (s : Lent) → soundDurable s ≡ true → Sized s
-unfolding s1-parameters s2-lengths
-durable-sized s h =
-    let e = durable-clauses s h in
-    let p = and-both (eqb (length (s .durable .fixed)) 20) (inRange (paramsOf s)) (e .0) in
-    let r = ranged (paramsOf s) (p .1) in
-    let l = lengths-each s (paramsOf s) (e .1) in
-    record {
-      fixed = eqb-true (length (s .durable .fixed)) 20 (p .0);
-      size-least = r .size-least;
-      size = r .size-most;
-      pages-least = r .pages-least;
-      pages = r .pages-most;
-      frames-least = r .frames-least;
-      frames = r .frames-most;
-      online-size = r .online-most;
-      log-size = r .log-most;
-      marks = l .0;
-      log = l .1;
-      stored = l .2;
-      tables = l .3;
-      online = l .4;
-      pool = l .5;
-    }
-
-pub durable-logged : (s : Lent) → soundDurable s ≡ true → (loggedOf s ≤ logSizeOf s) × (loggedOf s ≤ lastOf s)
-unfolding s3-logged s16-logged
-durable-logged s h =
-    let e = durable-clauses s h in
-    (leb-true (loggedOf s) (logSizeOf s) (e .2), leb-true (loggedOf s) (lastOf s) (e .3))
-
-pub durable-log-records : (s : Lent) → soundDurable s ≡ true → every (wellFormed (sizeOf s) (pagesOf s)) (logOf s) ≡ true
-unfolding s7-log-records
-durable-log-records s h = durable-clauses s h .7

@@ -1,20 +1,19 @@
 -- Laws of pages and frames within their areas, and of what fetch finds.
-use Prim.Native.Nat.{ℕ, zero, suc, _+_, _*_, _-_, _/_, _%_, _≤_, _<_}
+use Prim.Native.Nat.{ℕ, _+_, _*_, _-_, _/_, _%_, _≤_, _<_}
 use native.Mathlib.Omega.{arith}
 use mathlib.Core.Path.{_≡_, sym, _∙_}
-use mathlib.Core.Bool.{Bool, true, false, cond, not}
-use mathlib.Core.List.{List, [], _∷_, _++_}
+use mathlib.Core.Bool.{true, false, cond, not}
+use mathlib.Core.List.{List, _++_}
 use lib.ListN.{length, getD, take, drop, length-take, length-drop}
-use lib.Dec.{eqb, ltb}
-use borrow.Author.Tests.{eq-eqb, ne-eqb, ltb-true}
+use lib.Dec.{eqb}
+use borrow.Author.Tests.{eq-eqb, ne-eqb}
 use borrow.Rule.Slice.PartMut.{putMid, put-same}
 use Rattle.record.specs.Part.{part, withPart}
 use Rattle.record.specs.Rows.{rows, keep}
 use Rattle.record.specs.Record.{onPage, applied}
 use Rattle.record.proofs.Parts.{part-inner, one-fits}
-use Rattle.order.specs.Order.{named, touched, victim, frameFrom, frameFor}
+use Rattle.order.specs.Order.{touched, frameFor}
 use Rattle.rules.specs.Lent.{Lent, sizeOf, pagesOf, framesOf, countOf, orderOf, entryAt, entryOf, pageIn, withPage, withOrder, withEntries}
-use Rattle.rules.specs.Sound.{every}
 use Rattle.rules.specs.Shape.{Shaped}
 use Rattle.rules.specs.Steps.{placed, rebuilt, fetchedEntries, fetchedPool, readTables, readStep, readBytes}
 use Rattle.rules.proofs.Kept.{frame-below}

@@ -6,10 +6,10 @@ use mathlib.Core.Bool.{Bool, true, false, cond}
 use mathlib.Core.List.{List, [], _∷_, _++_, map, append-assoc, append-nil}
 use lib.ListN.{length, take, drop, set, replicate, length-append, length-take, length-drop, length-set, length-map}
 use lib.Seq.{length-take-le, set-append-left, take-at, drop-at}
-use Rattle.word.specs.Word.{num, put}
+use Rattle.word.specs.Word.{put}
 use Rattle.record.specs.Part.{withPart}
 use Rattle.record.specs.Rows.{rowAt, rows, joined, table}
-use Rattle.record.specs.Record.{pageOf, apply, rowOf}
+use Rattle.record.specs.Record.{pageOf, apply}
 use Rattle.record.proofs.Laws.{drop-zeros}
 use Rattle.rules.proofs.Every.{zeros-are}
 use Rattle.record.proofs.Rows.{length-rows, joined-all}

@@ -15,10 +15,9 @@ use Rattle.rules.specs.Lent.{Lent, paramsOf, Durable, sizeOf, pagesOf, framesOf
 use Rattle.rules.specs.Sound.{every, pairs, between}
 use Rattle.rules.proofs.Every.{or-right, every-kept, every-imp}
 use Rattle.rules.proofs.Extremes.{numberAtMost}
-use Rattle.rules.specs.Shape.{pageBelow}
+use Rattle.rules.specs.Shape.{pageBelow, Ranged}
 use Rattle.rules.proofs.Clauses.{formed-page}
-use Rattle.durable.specs.Ranges.{Ranged}
-use Rattle.durable.proofs.Laws.{ranged}
+use Rattle.rules.proofs.Ranges.{ranged}
 use Rattle.redo.proofs.Views.{rising}
 use Rattle.redo.proofs.Numbered.{numberedFrom-committed, numberedFrom-formed, numberedFrom-from, numberedFrom-rising}
 use Rattle.readback.proofs.Seen.{only}

@@ -16,7 +16,7 @@ use Rattle.record.proofs.Rows.{wide-all, length-rows}
 use Rattle.rules.specs.Lent.{Lent, Durable, Lost, sizeOf, pagesOf, framesOf, onlineSizeOf, logSizeOf, lastOf, firstOf, stampOf, countOf, usedOf, liveOf, orderOf, entriesOf, onlineOf, isDirty}
 use Rattle.rules.specs.Sound.{every, pairs, upTo, zeros, between, same, agree, apart, owning, serving, times, exactLengths, s1-parameters, s2-lengths, s3-logged, s16-logged, s18-first, s15-stamps, s17-s19-dirty, s7-log-records, s14-log-zero, s3-counts, s20-live, s4-entries, s5-frame-once, s6-order, s14-order-zero, s7-online-records, s8-owners, s14-online-zero, s10-in-log, s11-above-stamp, s9-number-once, s12-dirty, s13-apart, soundDurable, soundLost, sound}
 use Rattle.rules.specs.Shape.{Sized}
-use Rattle.durable.proofs.Laws.{durable-sized}
+use Rattle.rules.proofs.Ranges.{durable-sized}
 use Rattle.seats.proofs.Seated.{Seated}
 use Rattle.seats.proofs.Places.{seated-s5, seated-s6}
 use Rattle.rules.proofs.Every.{every-imp}

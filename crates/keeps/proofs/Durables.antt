@@ -12,7 +12,7 @@ use Rattle.rules.specs.Lent.{Lent, paramsOf, sizeOf, pagesOf, framesOf, onlineS
 use Rattle.rules.specs.Shape.{Sized}
 use Rattle.rules.specs.Sound.{every, upTo, zeros, between, inRange, exactLengths, s1-parameters, s2-lengths, s3-logged, s16-logged, s18-first, s15-stamps, s17-s19-dirty, s7-log-records, s14-log-zero, soundDurable}
 use Rattle.rules.proofs.Every.{or-either, or-left, or-right}
-use Rattle.durable.proofs.Laws.{durable-sized}
+use Rattle.rules.proofs.Ranges.{durable-sized}
 use Rattle.readback.proofs.Seen.{Areas}
 use Rattle.keeps.proofs.Tests.{upTo-all, upTo-at}
 use Rattle.keeps.proofs.Clauses.{DurableClauses, durable-clauses, clauses-durable}

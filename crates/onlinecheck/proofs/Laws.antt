@@ -16,7 +16,6 @@ use Rattle.record.specs.Rows.{rowAt, rows}
 use Rattle.record.specs.Record.{pageOf, offsetOf, lengthOf, ownerOf, numberOf, committed, bodyOf, wellFormed, shareByte, free}
 use Rattle.rules.specs.Lent.{Lent, sizeOf, pagesOf, framesOf, lastOf, loggedOf, countOf}
 use Rattle.rules.specs.Sound.{every, pairs, between, same, apart, owning, s7-online-records, s8-owners, s14-online-zero, s10-in-log, s11-above-stamp, s9-number-once, s12-dirty, s13-apart}
-use Rattle.rules.specs.Shape.{pageBelow}
 use Rattle.onlinecheck.specs.Online.{owningIn, inLog, pastStamp, rowTest, otherNumber, entryAgrees, onlineTest}
 use Rattle.rules.proofs.Every.{every-imp}
 use Rattle.onlinecheck.proofs.Rows.{every-both}

@@ -29,4 +29,3 @@ pub every-at : (b : List ℕ → Bool) (w m : ℕ) (t : List ℕ) (i : ℕ) → 
 every-at b w m t i p h =
     let n : 0 + i ≡ i = omega arith in
     rw n at (every-from b w m t 0 i p h)
-

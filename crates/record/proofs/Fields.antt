@@ -1,14 +1,10 @@
 -- The row that update writes: its fields, and that it has no number.
-use Prim.Native.Nat.{ℕ, _+_, _^_, _≤_, _<_}
+use Prim.Native.Nat.{ℕ, _^_, _≤_, _<_}
 use native.Mathlib.Omega.{arith}
 use native.Mathlib.Nat.{pow-le-pow-right, lt-of-lt-of-le}
-use mathlib.Core.Path.{_≡_, refl, sym, ap, _∙_}
-use mathlib.Core.List.{List}
-use lib.ListN.{length, set, replicate, length-set, length-replicate}
-use lib.Seq.{getD-set-other}
+use mathlib.Core.Path.{_≡_, refl}
+use lib.ListN.{length}
 use Rattle.word.specs.Word.{num, put}
-use Rattle.word.proofs.Laws.{length-put}
-use Rattle.word.proofs.Puts.{num-put}
 use Rattle.record.specs.Record.{pageOf, offsetOf, lengthOf, kindOf, valueOf, ownerOf, numberOf, rowOf}
 
 module _ (page offset w kind v owner : ℕ) where

@@ -1,11 +1,10 @@
 -- Laws of rows: a turn of a loop over them, rows as bytes, their width, tables in canonical form.
 use Prim.Native.Nat.{ℕ, zero, suc, _+_, _*_, _-_, _≤_, _<_}
 use native.Mathlib.Omega.{arith}
-use native.Mathlib.Numerals.{add-one}
 use native.Mathlib.Nat.{suc-mul, zero-mul, add-mul, one-mul, mul-comm, mul-sub, add-comm}
 use mathlib.Core.Path.{_≡_, refl, sym, ap, _∙_}
-use mathlib.Core.Bool.{Bool, true, false, cond, not}
-use mathlib.Core.List.{List, [], _∷_, _++_, append-assoc, append-nil, map}
+use mathlib.Core.Bool.{Bool, true, false, cond}
+use mathlib.Core.List.{List, [], _∷_, _++_, append-assoc, map}
 use lib.ListN.{length, take, drop, set, replicate, length-append, length-drop, length-set, length-replicate}
 use lib.Seq.{take-add, drop-drop, take-at, drop-at, length-take-le}
 use Rattle.record.specs.Part.{part}

@@ -1,22 +1,19 @@
 -- Rows by their fields: one that commit numbers, one that restart enters from the log. Commit and restart make the same row,
 -- so the online table and the log speak of the same records. Lists of such rows: their width, their numbers.
-use Prim.Native.Nat.{ℕ, suc, _+_, _^_, _≤_, _<_}
+use Prim.Native.Nat.{ℕ, suc, _+_, _≤_, _<_}
 use native.Mathlib.Omega.{arith}
-use native.Mathlib.Nat.{pow-le-pow-right, lt-of-lt-of-le}
 use mathlib.Core.Path.{_≡_, refl, sym, ap, _∙_}
 use mathlib.Core.Logic.{inl}
 use mathlib.Core.Bool.{Bool, true, false, not, _&&_, Bool·not-not}
 use mathlib.Core.List.{List, [], _∷_, _++_}
-use lib.ListN.{length, getD, set, replicate, length-append, length-set, length-replicate, List·getD-append}
-use lib.Seq.{getD-set-same, getD-set-other, ext-getD, take-at, getD-at, length-take-le}
+use lib.ListN.{length, getD, set, replicate, length-append, length-set, List·getD-append}
+use lib.Seq.{ext-getD, take-at, getD-at, length-take-le}
 use lib.Dec.{leb, ltb}
 use borrow.Author.Tests.{eqb-true, eq-eqb, ne-eqb, leb-true, ltb-true, ltb-false, lt-ltb, le-leb}
-use Rattle.word.specs.Word.{num, put}
-use Rattle.word.proofs.Laws.{length-put}
-use Rattle.word.proofs.Puts.{getD-put-below, getD-put-above, num-put, num-put-below, take-put}
+use Rattle.word.proofs.Puts.{getD-put-below, num-put, take-put}
 use Rattle.word.proofs.Tests.{and-both}
 use Rattle.record.specs.Rows.{keep}
-use Rattle.record.specs.Record.{pageOf, offsetOf, lengthOf, kindOf, valueOf, ownerOf, numberOf, committed, ownedBy, bodyOf, wellFormed, rowOf, numbered, entered}
+use Rattle.record.specs.Record.{pageOf, offsetOf, lengthOf, kindOf, valueOf, ownerOf, numberOf, committed, ownedBy, bodyOf, wellFormed, numbered, entered}
 use Rattle.record.proofs.Laws.{numbered-owner}
 use Rattle.record.proofs.Rows.{Wide, none, one, length-numbered, length-entered}
 use Rattle.rules.specs.Sound.{every, pairs}

@@ -13,7 +13,7 @@ use Rattle.word.specs.Word.{num}
 use Rattle.word.proofs.Tests.{and-both}
 use Rattle.record.specs.Part.{part}
 use Rattle.record.specs.Rows.{keep, any}
-use Rattle.record.specs.Record.{pageOf, offsetOf, lengthOf, kindOf, valueOf, ownerOf, numberOf, committed, apply, applied, onPage, committedOn, ownedBy, shareByte, free, overlaps}
+use Rattle.record.specs.Record.{pageOf, offsetOf, lengthOf, kindOf, valueOf, ownerOf, numberOf, committed, apply, applied, onPage, committedOn, ownedBy, free}
 use Rattle.record.proofs.Parts.{length-part}
 use Rattle.rules.proofs.Every.{every-kept-where, every-imp}
 use Rattle.record.proofs.Changes.{length-applied}

@@ -1,6 +1,6 @@
 -- Soundness as its clauses: the two parts, the zeros behind the rows, and S17 and S19, which soundness walks together, as the two clauses of 01.
 use Prim.Native.Nat.{ℕ, _*_}
-use mathlib.Core.Path.{_≡_, refl, sym, ap, _∙_}
+use mathlib.Core.Path.{_≡_, refl, _∙_}
 use mathlib.Core.Bool.{Bool, true, false, _&&_, _||_}
 use mathlib.Core.List.{List}
 use lib.ListN.{drop}
@@ -9,7 +9,7 @@ use Rattle.word.proofs.Tests.{and-both}
 use Rattle.record.specs.Record.{wellFormed}
 use Rattle.rules.specs.Lent.{Lent, pagesOf, dirtyOf, closedOf, firstOf, loggedOf, countOf}
 use Rattle.rules.specs.Shape.{pageBelow}
-use Rattle.rules.specs.Sound.{every, upTo, zeros, sound, soundDurable, soundLost, s1-parameters, s2-lengths, s3-logged, s16-logged, s18-first, s15-stamps, s17-dirty, s19-first, s17-s19-dirty, s7-log-records, s14-log-zero, s3-counts, s20-live, s4-entries, s5-frame-once, s6-order, s14-order-zero, s7-online-records, s8-owners, s14-online-zero, s10-in-log, s11-above-stamp, s9-number-once, s12-dirty, s13-apart}
+use Rattle.rules.specs.Sound.{every, zeros, sound, soundDurable, soundLost, s1-parameters, s2-lengths, s3-logged, s16-logged, s18-first, s15-stamps, s17-dirty, s19-first, s17-s19-dirty, s7-log-records, s14-log-zero, s3-counts, s20-live, s4-entries, s5-frame-once, s6-order, s14-order-zero, s7-online-records, s8-owners, s14-online-zero, s10-in-log, s11-above-stamp, s9-number-once, s12-dirty, s13-apart}
 use Rattle.rules.proofs.Every.{every-imp}
 use Rattle.rules.proofs.Walks.{upTo-alike, upTo-both}
 

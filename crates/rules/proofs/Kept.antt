@@ -7,7 +7,7 @@ use mathlib.Core.List.{List, [], _∷_}
 use lib.ListN.{length}
 use lib.Dec.{ltb}
 use borrow.Author.Tests.{ltb-true}
-use Rattle.word.specs.Word.{num, put}
+use Rattle.word.specs.Word.{num}
 use Rattle.word.proofs.Laws.{length-put}
 use Rattle.word.proofs.Puts.{num-put-below}
 use Rattle.record.specs.Record.{pageOf, numberOf, committed, lesser, greatest}

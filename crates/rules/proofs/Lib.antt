@@ -3,6 +3,7 @@ pub mod Verdicts
 pub mod Went
 pub mod Walks
 pub mod Clauses
+pub mod Ranges
 pub mod Every
 pub mod Tables
 pub mod Extremes

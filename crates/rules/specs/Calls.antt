@@ -31,7 +31,6 @@ pub record Test : Type 0 where
   pub holds : Bool
 
 infix 90 _when_
-
 abbrev pub _when_ : Refusal → Bool → Test
 r when b = record { gives = r; holds = b }
 

@@ -11,7 +11,7 @@ use borrow.Author.Tests.{ltb-true, eqb-true, eqb-false, lt-ltb, eq-eqb, ne-eqb}
 use Rattle.word.proofs.Tests.{and-both}
 use Rattle.record.specs.Rows.{consIf, keep}
 use Rattle.order.specs.Order.{without, touched}
-use Rattle.rules.specs.Sound.{every, upTo, serving, times}
+use Rattle.rules.specs.Sound.{every, serving, times}
 use Rattle.rules.specs.Steps.{freed}
 
 -- one more at the front

@@ -30,7 +30,7 @@ use Rattle.rules.proofs.Every.{or-left, or-right, keep-within}
 use Rattle.rules.proofs.Clauses.{formed-page}
 use Rattle.rules.proofs.Verdicts.{number-least}
 use Rattle.rules.proofs.Went.{checkpoint-went}
-use Rattle.durable.proofs.Laws.{ranged}
+use Rattle.rules.proofs.Ranges.{ranged}
 use Rattle.redo.proofs.Views.{keep-all, keep-none}
 use Rattle.redo.proofs.Loose.{owned-open}
 use Rattle.readback.proofs.Seen.{livesOf, Whole}

@@ -8,7 +8,7 @@ use Rattle.rules.specs.Areas.{areas}
 use Rattle.rules.specs.Sound.{soundDurable}
 use Rattle.rules.specs.Calls.{verdictOf, judgeRestart}
 use Rattle.rules.proofs.Verdicts.{refused, passed}
-use Rattle.durable.proofs.Laws.{durable-sized, durable-logged, durable-log-records}
+use Rattle.rules.proofs.Ranges.{durable-sized, durable-logged, durable-log-records}
 use Rattle.judge.proofs.Laws.{turned}
 use borrow.Author.Needs.{needs}
 use Rattle.verdict.proofs.judge_restart.Statement.{statement}

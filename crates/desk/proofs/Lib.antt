@@ -1,0 +1,2 @@
+-- an image is what was committed of its page
+pub mod Images
