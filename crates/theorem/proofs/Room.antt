@@ -80,7 +80,7 @@ unfolding judgeCommit commitRefusals verdictOf any
 commit-test t x e = (
   not-false (isNumber x) (number-told (not (sound t)) (not (isNumber x)) (verdictOf (drop 1 (commitRefusals (logSizeOf t) (loggedOf t) (lastOf t) (isLive (t .lost .tables)) (length (owned t x)) x))) e),
   sym (or-false (noRoom (logSizeOf t) (loggedOf t) (length (owned t x))))
-  ∙ told-held (unsound t ∷ commitRefusals (logSizeOf t) (loggedOf t) (lastOf t) (isLive (t .lost .tables)) (length (owned t x)) x) LogFull e,
+      ∙ told-held (unsound t ∷ commitRefusals (logSizeOf t) (loggedOf t) (lastOf t) (isLive (t .lost .tables)) (length (owned t x)) x) LogFull e,
 )
 
 -- 7 was told to an update: the table had no free row
