@@ -26,11 +26,11 @@ use Rattle.readback.proofs.Seen.{livesOf}
 use Rattle.readback.proofs.Marks.{marks-close, last-close, closed-close, logged-close, stamp-close, dirty-close}
 use Rattle.readback.proofs.Log.{log-close, log-zero-close, log-length-close}
 use Rattle.readback.proofs.Lost.{reads-closed}
+use Rattle.keeps.proofs.Tests.{every-all}
 use Rattle.history.specs.Past.{Past}
 use Rattle.history.proofs.Right.{Ground, DurableRight, LostRight, Right, rowsOf, openOf, aboveStamp}
 use Rattle.history.proofs.Settle.{settle}
 use Rattle.history.proofs.Facts.{done-paged, done-committed, open-unset, open-every, dirt-same, marks-long, logged-last, online-each}
-use Rattle.history.proofs.Tested.{every-all}
 use Rattle.history.proofs.Known.{rows-last}
 use Rattle.history.proofs.Aborts.{online-below}
 use Rattle.history.proofs.Carried.{lost-restated}

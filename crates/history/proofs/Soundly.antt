@@ -1,9 +1,8 @@
 -- Soundness follows from the invariant: each clause of "Sound tables", S1 to S20, read off what the history and the bytes keep between them.
 -- So no call after an honest use is refused as not sound.
-use Prim.Native.Nat.{ℕ, _+_, _*_, _-_, _≤_, _<_}
+use Prim.Native.Nat.{ℕ, _+_, _-_, _≤_, _<_}
 use native.Mathlib.Omega.{arith}
 use mathlib.Core.Path.{_≡_, refl, sym, ap, _∙_}
-use mathlib.Core.Logic.{_⊎_, inl, inr}
 use mathlib.Core.Bool.{Bool, true, false, not, _&&_, _||_}
 use mathlib.Core.List.{List, [], _∷_, _++_}
 use lib.ListN.{length, getD, drop}
@@ -14,8 +13,8 @@ use Rattle.word.proofs.Tests.{and-both, and-in}
 use Rattle.record.specs.Part.{part}
 use Rattle.record.specs.Rows.{rowAt, rows, keep, any}
 use Rattle.record.specs.Record.{ownerOf, numberOf, committed, bodyOf, entered, wellFormed, free}
-use Rattle.rules.specs.Lent.{Lent, paramsOf, Durable, sizeOf, pagesOf, framesOf, onlineSizeOf, logSizeOf, lastOf, closedOf, loggedOf, stampOf, dirtyOf, firstOf, logOf, liveOf, onlineOf}
-use Rattle.rules.specs.Sound.{every, pairs, upTo, between, inRange, apart, same, exactLengths, s1-parameters, s2-lengths, s3-logged, s16-logged, s18-first, s15-stamps, s17-s19-dirty, s7-log-records, s14-log-zero, soundDurable, sound}
+use Rattle.rules.specs.Lent.{Lent, Durable, sizeOf, pagesOf, lastOf, loggedOf, firstOf, logOf, liveOf, onlineOf}
+use Rattle.rules.specs.Sound.{every, pairs, between, apart, same, soundDurable, sound}
 use Rattle.rules.proofs.Every.{or-left, or-right, every-keep, every-imp}
 use Rattle.redo.proofs.Order.{free-sym, pairs-imp}
 use Rattle.redo.proofs.Views.{rising}
@@ -24,80 +23,48 @@ use Rattle.redo.proofs.Numbered.{entered-committed, entered-number, entered-byt
 use Rattle.redo.proofs.Reader.{every-both}
 use Rattle.readback.proofs.Seen.{only, livesOf, Areas}
 use Rattle.readback.proofs.Lost.{live-whole}
-use Rattle.keeps.proofs.Tests.{upTo-all, every-append, every-all, pairs-keep, differ, differ-by, differ-then}
+use Rattle.keeps.proofs.Tests.{every-drop, every-append, every-all, pairs-keep, differ, differ-by, differ-then, same-itself}
+use Rattle.keeps.proofs.Durables.{DurableHolds, holds-durable}
+use Rattle.keeps.proofs.Numbering.{rows-at}
 use Rattle.keeps.proofs.Clauses.{ownedRight, inLog, stampBelow, HoldsIn, sound-by}
 use Rattle.history.specs.Past.{Past}
 use Rattle.history.proofs.Right.{Ground, rowsOf, openOf, aboveStamp, DurableRight, Right}
-use Rattle.history.proofs.Tested.{every-drop, same-itself, rows-at, every-numbered}
+use Rattle.history.proofs.Tested.{every-numbered}
 use Rattle.history.proofs.Facts.{done-formed, done-committed, done-rising, open-every, marks-long, stored-long, logged-last, online-every, online-each}
 
+-- what restart checks holds of the durable part, and of the lengths of the lost one
 module _ (g : Ground) (done : List (List ℕ)) (s : Lent) (d : DurableRight g done (s .durable)) where
-  has-parameters : s1-parameters s ≡ true
-  unfolding s1-parameters
-  has-parameters = and-in (eqb (length (s .durable .fixed)) 20) (inRange (paramsOf s)) (eq-eqb (length (s .durable .fixed)) 20 (d .fixed)) (d .range)
-
-  has-lengths : Areas s → s2-lengths s ≡ true
-  unfolding s2-lengths exactLengths
-  has-lengths a =
-      rw (
-        eq-eqb (length (s .durable .marks)) (12 + 8 * pagesOf s) (marks-long d),
-        eq-eqb (length (s .durable .log)) (14 * logSizeOf s) (d .log),
-        eq-eqb (length (s .durable .stored)) (sizeOf s * pagesOf s) (stored-long d),
-        eq-eqb (length (s .lost .tables)) (35 + framesOf s + pagesOf s) (a .tables),
-        eq-eqb (length (s .lost .online)) (19 * onlineSizeOf s) (a .online),
-        eq-eqb (length (s .lost .pool)) (sizeOf s * framesOf s) (a .pool),
-      )
-
-  few-logged : s3-logged s ≡ true
-  unfolding s3-logged
-  few-logged = le-leb (loggedOf s) (logSizeOf s) (d .logged)
-
-  n-below : s16-logged s ≡ true
-  unfolding s16-logged
-  n-below = le-leb (loggedOf s) (lastOf s) (logged-last d)
-
-  first-below : s18-first s ≡ true
-  unfolding s18-first
-  first-below = le-leb (firstOf s) (closedOf s + 1) (d .first)
-
   page-within : (p : ℕ) → p < pagesOf s → p < g .pages
   page-within p h = omega (arith, d .pages)
 
-  stamps-below : s15-stamps s ≡ true
-  unfolding s15-stamps
-  stamps-below =
-      and-in (leb (closedOf s) (lastOf s)) (upTo (λ (p : ℕ). leb (stampOf s p) (lastOf s)) (pagesOf s) 0)
-      (le-leb (closedOf s) (lastOf s) (d .closed))
-      (upTo-all (λ (p : ℕ). leb (stampOf s p) (lastOf s)) (pagesOf s) (λ p h. le-leb (stampOf s p) (lastOf s) (d .stamps p (page-within p h))))
-
-  dirty-between : s17-s19-dirty s ≡ true
-  unfolding s17-s19-dirty
-  dirty-between = upTo-all (λ (p : ℕ). eqb (dirtyOf s p) 0 || between (firstOf s) (dirtyOf s p) (closedOf s)) (pagesOf s) (λ p h. pick p (d .dirty p (page-within p h)))
-    where
-      pick : (p : ℕ) → (dirtyOf s p ≡ 0) ⊎ ((firstOf s ≤ dirtyOf s p) × (dirtyOf s p ≤ closedOf s)) → (eqb (dirtyOf s p) 0 || between (firstOf s) (dirtyOf s p) (closedOf s)) ≡ true
-      pick p (inl e) = or-left (eqb (dirtyOf s p) 0) (between (firstOf s) (dirtyOf s p) (closedOf s)) (eq-eqb (dirtyOf s p) 0 e)
-      pick p (inr e) =
-          or-right (eqb (dirtyOf s p) 0) (between (firstOf s) (dirtyOf s p) (closedOf s))
-          (and-in (leb (firstOf s) (dirtyOf s p)) (leb (dirtyOf s p) (closedOf s)) (le-leb (firstOf s) (dirtyOf s p) (e .0)) (le-leb (dirtyOf s p) (closedOf s) (e .1)))
-
   -- "records are well formed" of what was committed is so of the log, its end
-  log-formed : every (wellFormed (g .size) (g .pages)) done ≡ true → s7-log-records s ≡ true
-  unfolding s7-log-records
+  log-formed : every (wellFormed (g .size) (g .pages)) done ≡ true → every (wellFormed (sizeOf s) (pagesOf s)) (logOf s) ≡ true
   log-formed h =
       ap (λ (n : ℕ). every (wellFormed n (pagesOf s)) (logOf s)) (d .size)
       ∙ ap (λ (n : ℕ). every (wellFormed (g .size) n) (logOf s)) (d .pages)
       ∙ ap (λ (l : List (List ℕ)). every (wellFormed (g .size) (g .pages)) l) (d .log-read)
       ∙ every-drop (wellFormed (g .size) (g .pages)) (length done - loggedOf s) done h
 
-  log-clear : s14-log-zero s ≡ true
-  unfolding s14-log-zero
-  log-clear = d .log-zero
+  right-durable : every (wellFormed (g .size) (g .pages)) done ≡ true → DurableHolds s
+  right-durable h =
+      record {
+        fixed = d .fixed;
+        range = d .range;
+        marks = marks-long d;
+        log = d .log;
+        stored = stored-long d;
+        logged = d .logged;
+        logged-last = logged-last d;
+        first = d .first;
+        closed-last = d .closed;
+        stamps = λ p k. d .stamps p (page-within p k);
+        dirty = λ p k. d .dirty p (page-within p k);
+        formed = log-formed h;
+        clear = d .log-zero;
+      }
 
--- what restart checks holds of the durable part, and of the lengths of the lost one
 pub durable-sound : (g : Ground) (done : List (List ℕ)) (s : Lent) → DurableRight g done (s .durable) → every (wellFormed (g .size) (g .pages)) done ≡ true → Areas s → soundDurable s ≡ true
-unfolding soundDurable
-durable-sound g done s d formed areas =
-    rw (has-parameters g done s d, has-lengths g done s d areas, few-logged g done s d, n-below g done s d, first-below g done s d, stamps-below g done s d, dirty-between g done s d, log-formed g done s d formed, log-clear g done s d)
+durable-sound g done s d formed areas = holds-durable s (right-durable g done s d formed) areas
 
 -- S8 of a committed record, and of an uncommitted one
 owned-committed : (d : Durable) (lives r : List ℕ) → committed r ≡ true → 1 ≤ numberOf r → numberOf r ≤ lastOf (only d) → ownedRight d lives r ≡ true

@@ -1,19 +1,17 @@
 -- Tests of every row, of each two, of one at least: of rows appended, of rows kept, and of committed rows as the log's records make them.
 -- Soundness is such tests, and the invariant names its rows as appended, kept and numbered ones.
-use Prim.Native.Nat.{ℕ, zero, suc, _+_, _<_}
+use Prim.Native.Nat.{ℕ, suc, _+_, _<_}
 use native.Mathlib.Omega.{arith}
 use mathlib.Core.Path.{_≡_, refl, ap, _∙_}
-use mathlib.Core.Bool.{Bool, true, false, not, _&&_, _||_}
+use mathlib.Core.Bool.{Bool, true, false, not, _||_}
 use mathlib.Core.List.{List, [], _∷_, _++_}
-use lib.ListN.{length, getD, drop}
-use lib.Dec.{eqb}
-use borrow.Author.Tests.{eq-eqb}
+use lib.ListN.{length, getD}
 use Rattle.word.proofs.Tests.{and-both, and-in}
-use Rattle.record.specs.Rows.{rowAt, rows, keep, consIf, any}
+use Rattle.record.specs.Rows.{rows, keep, any}
 use Rattle.record.specs.Record.{entered}
 use Rattle.rules.proofs.Every.{every-kept-where}
 use Rattle.record.proofs.Rows.{Wide, none, one}
-use Rattle.rules.specs.Sound.{every, same}
+use Rattle.rules.specs.Sound.{every}
 use Rattle.redo.proofs.View.{keep-append}
 use Rattle.redo.proofs.Views.{keep-none}
 use Rattle.redo.proofs.Loose.{_≅_, numberedFrom, ≅-every}
@@ -25,13 +23,7 @@ or-of : (a b : Bool) → a ≡ true → (not a || b) ≡ true → b ≡ true
 or-of true b h k = k
 or-of false b h k = let z : _≡_ {A = ℕ} 0 1 = cc in absurd (omega arith)
 
--- every row: behind some, before others
-pub every-drop : (b : List ℕ → Bool) (n : ℕ) (l : List (List ℕ)) → every b l ≡ true → every b (drop n l) ≡ true
-unfolding every
-every-drop b zero l h = h
-every-drop b (suc n) [] h = h
-every-drop b (suc n) (r ∷ l) h = every-drop b n l (and-both (b r) (every b l) h .1)
-
+-- every row before others
 pub every-front : (c : List ℕ → Bool) (l m : List (List ℕ)) → every c (l ++ m) ≡ true → every c l ≡ true
 unfolding every
 every-front c [] m h = refl
@@ -39,20 +31,9 @@ every-front c (r ∷ l) m h =
     let e : (c r ≡ true) × (every c (l ++ m) ≡ true) = and-both (c r) (every c (l ++ m)) h in
     and-in (c r) (every c l) (e .0) (every-front c l m (e .1))
 
--- those kept: what follows from the test that kept them; and that told of all
+-- those kept: what follows from the test that kept them
 pub every-picked : (a c : List ℕ → Bool) (l : List (List ℕ)) → every (λ (r : List ℕ). not (a r) || c r) l ≡ true → every c (keep a l) ≡ true
 every-picked a c l h = every-kept-where a (λ (r : List ℕ). not (a r) || c r) c (λ r e k. or-of (a r) (c r) e k) l h
-
-pub picked-every : (a c : List ℕ → Bool) (l : List (List ℕ)) → every c (keep a l) ≡ true → every (λ (r : List ℕ). not (a r) || c r) l ≡ true
-unfolding every keep
-picked-every a c [] h = refl
-picked-every a c (r ∷ l) h = pick (a r) (picked-every a c l) h
-  where
-    pick : (t : Bool) → (every c (keep a l) ≡ true → every (λ (q : List ℕ). not (a q) || c q) l ≡ true) → every c (consIf t r (keep a l)) ≡ true → ((not t || c r) && every (λ (q : List ℕ). not (a q) || c q) l) ≡ true
-    pick true f k =
-        let e : (c r ≡ true) × (every c (keep a l) ≡ true) = and-both (c r) (every c (keep a l)) k in
-        and-in (c r) (every (λ (q : List ℕ). not (a q) || c q) l) (e .0) (f (e .1))
-    pick false f k = f k
 
 -- rows that are those picked, then others, but for swaps: each passes what they pass
 pub online-all : (above : List ℕ → Bool) (rows opened : List (List ℕ)) {online : List (List ℕ)} → online ≅ keep above rows ++ opened
@@ -65,19 +46,6 @@ keep-behind c l m h = keep-append c l m ∙ ap (λ (k : List (List ℕ)). k ++ k
 
 pub any-behind : (c : List ℕ → Bool) (l m : List (List ℕ)) → every (λ (r : List ℕ). not (c r)) l ≡ true → any c (l ++ m) ≡ any c m
 any-behind c l m h = any-by c (l ++ m) m (keep-behind c l m h)
-
--- a row is the same as itself
-pub same-itself : (l : List ℕ) → same l l ≡ true
-unfolding same
-same-itself [] = refl
-same-itself (x ∷ l) = and-in (eqb x x) (same l l) (eq-eqb x x refl) (same-itself l)
-
--- row i of the first n
-pub rows-at : (w n : ℕ) (t : List ℕ) (k i : ℕ) → i < n → getD (rows w n t k) i [] ≡ rowAt w t (k + i)
-unfolding rows
-rows-at w zero t k i p = absurd (omega arith)
-rows-at w (suc n) t k zero p = ap (λ (j : ℕ). rowAt w t j) (omega arith)
-rows-at w (suc n) t k (suc i) p = rows-at w n t (k + 1) i (omega arith) ∙ ap (λ (j : ℕ). rowAt w t j) (omega arith)
 
 -- what each of the rows that log records make passes
 pub every-numbered : (c : List ℕ → Bool) (k : ℕ) (l : List (List ℕ)) → Wide 14 l → ((i : ℕ) → i < length l → length (getD l i []) ≡ 14 → c (entered (getD l i []) (k + i)) ≡ true) → every c (numberedFrom k l) ≡ true

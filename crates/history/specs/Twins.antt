@@ -57,10 +57,11 @@ pub data Agree : Answer → Answer → Type 0 where
   not-due : Agree NotDue NotDue
   refused : (r : Refusal) → Agree (Refused r) (Refused r)
 
--- what one store may do alone: upkeep with any arguments, or a format that is refused
+-- what one store may do alone: upkeep with any arguments, a format that is refused, and, while both await a restart, lose power once more
 pub data Aside (h : Past) (s : Lent) : Lent → Type 0 where
   keeping : h .down ≡ false → (c : Call) → upkeep c ≡ true → Aside h s (outcome s c .lent)
   not-formatted : (g : Params) (last : ℕ) (r : Refusal) → formatCall s g last .answer ≡ Refused r → Aside h s (formatCall s g last .lent)
+  lost-again : h .down ≡ true → (l : Lost) → Fits s l → Aside h s (afterLoss s l)
 
 -- a power loss of one store: between calls, or inside a checkpoint of its own
 pub data Loses (h : Past) (s : Lent) : Lent → Type 0 where

@@ -1,5 +1,5 @@
 -- Begin, evict and abort on sound tables leave sound tables: one live byte, one entry, an owner's rows.
-use Prim.Native.Nat.{ℕ, _+_, _-_, _%_, _≤_, _<_}
+use Prim.Native.Nat.{ℕ, _-_, _%_, _≤_, _<_}
 use native.Mathlib.Omega.{arith}
 use mathlib.Core.Path.{_≡_, refl, sym, ap, _∙_, subst}
 use mathlib.Core.Bool.{Bool, true, false, cond, not, _&&_}
@@ -9,12 +9,11 @@ use lib.Seq.{getD-set-same, getD-set-other}
 use lib.Dec.{eqb, leb, ltb}
 use borrow.Author.Tests.{eqb-true, eqb-false, not-true}
 use Rattle.word.proofs.Tests.{and-both, and-in}
-use Rattle.record.specs.Rows.{keep, any}
-use Rattle.record.specs.Record.{pageOf, ownerOf, numberOf, committed, onPage, ownedBy, wellFormed}
+use Rattle.record.specs.Rows.{keep}
+use Rattle.record.specs.Record.{pageOf, ownerOf, numberOf, committed, ownedBy, wellFormed}
 use Rattle.record.proofs.Parts.{length-part}
 use Rattle.order.specs.Order.{without}
-use Rattle.rules.specs.Lent.{Lent, Durable, sizeOf, pagesOf, framesOf, lastOf, orderOf, entryAt, entryOf, entriesOf, onlineOf, inFrame, frameOf, isDirty}
-use Rattle.rules.specs.Shape.{Sized}
+use Rattle.rules.specs.Lent.{Lent, Durable, sizeOf, pagesOf, framesOf, lastOf, orderOf, entryOf, entriesOf, onlineOf, inFrame, frameOf, isDirty}
 use Rattle.rules.specs.Sound.{every, between, apart, sound}
 use Rattle.rules.specs.Steps.{freedOf, begun, evicted, owned, others, aborted}
 use Rattle.rules.proofs.Every.{every-set, every-keep, every-kept-where}
@@ -22,7 +21,7 @@ use Rattle.rules.proofs.Every.{every-imp}
 use Rattle.rules.proofs.Clauses.{formed-page}
 use Rattle.seats.proofs.Seated.{Seated}
 use Rattle.seats.proofs.Places.{seated-leave}
-use Rattle.seats.proofs.Loops.{judgedEntries, seated-abort, abort-dirty}
+use Rattle.seats.proofs.Loops.{seated-abort, abort-dirty}
 use Rattle.readback.proofs.Seen.{only, livesOf, Whole}
 use Rattle.readback.proofs.Lost.{entry-whole, entries-length, reads-begun, reads-evicted, reads-aborted}
 use Rattle.keeps.proofs.Tests.{pairs-keep, differ}
@@ -133,7 +132,7 @@ unfolding aborted
 sound-abort s x e low high =
     let h : HoldsIn s = sound-holds s e in
     let below : every (λ (r : List ℕ). ltb (pageOf r) (pagesOf s)) (onlineOf s) ≡ true = formed-page (sizeOf s) (pagesOf s) (onlineOf s) (h .formed) in
-    let r = reads-aborted s x (sound-whole s e) (sound-sized s e .room) low high below in
+    let r = reads-aborted s x (sound-whole s e) (sound-sized s e .online-size) low high below in
     let n : length (entriesOf s) ≡ pagesOf s = entries-length s (sound-whole s e .areas) in
     let other : List ℕ → Bool = λ (q : List ℕ). not (ownedBy x q) in
     sound-by (durable-again (s .durable) (s .lost) (aborted s x .lent .lost) (sound-durable s e) (r .areas)) r

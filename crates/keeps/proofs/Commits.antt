@@ -10,9 +10,9 @@ use lib.Seq.{getD-append-add, length-take-le}
 use lib.Dec.{eqb, leb, ltb}
 use borrow.Author.Tests.{eqb-true, ltb-true, leb-true, lt-ltb, le-leb}
 use Rattle.word.proofs.Tests.{and-both, and-in}
-use Rattle.record.specs.Rows.{rowAt, keep, any}
-use Rattle.record.specs.Record.{pageOf, ownerOf, numberOf, committed, ownedBy, onPage, bodyOf, wellFormed, numbered, numberRows, shareByte}
-use Rattle.record.proofs.Rows.{Wide, wide-keep, length-rows}
+use Rattle.record.specs.Rows.{rowAt}
+use Rattle.record.specs.Record.{pageOf, ownerOf, numberOf, committed, ownedBy, bodyOf, wellFormed, numbered, numberRows, free}
+use Rattle.record.proofs.Rows.{wide-keep, length-rows}
 use Rattle.rules.specs.Lent.{Lent, Durable, sizeOf, pagesOf, logSizeOf, lastOf, closedOf, loggedOf, firstOf, stampOf, dirtyOf, logOf, onlineOf}
 use Rattle.rules.specs.Sound.{every, pairs, between, same, apart, sound}
 use Rattle.rules.specs.Steps.{owned, committing}
@@ -26,11 +26,11 @@ use Rattle.readback.proofs.Seen.{only, livesOf, Whole}
 use Rattle.readback.proofs.Lost.{reads-committing}
 use Rattle.readback.proofs.Marks.{marks-commit, last-commit, closed-commit, logged-commit, stamp-commit, dirty-commit}
 use Rattle.readback.proofs.Log.{log-commit, log-zero-commit, log-length-commit}
-use Rattle.keeps.proofs.Tests.{every-all, every-append, same-itself, differ, differ-by}
+use Rattle.keeps.proofs.Tests.{every-append, same-itself, differ, differ-by}
 use Rattle.keeps.proofs.Clauses.{ownedRight, inLog, stampBelow, HoldsIn, sound-durable, sound-sized, sound-whole, sound-holds, sound-by}
 use Rattle.keeps.proofs.Durables.{DurableHolds, durable-holds, holds-durable}
 use Rattle.keeps.proofs.Begins.{others-owned}
-use Rattle.keeps.proofs.Numbering.{every-getD, wide-getD, rows-at, bodies-any, bodies-formed, mine, theirs, every-number, pairs-number}
+use Rattle.keeps.proofs.Numbering.{every-getD, wide-getD, rows-at, bodies-any, bodies-formed, theirs, every-number, pairs-number}
 
 -- a committed row: its number is one of those given out
 pub owned-number : (d : Durable) (lives r : List ℕ) → ownedRight d lives r ≡ true → numberOf r ≤ lastOf (only d)
@@ -44,7 +44,7 @@ owned-number d lives r h = go (committed r) h
         omega (arith, eqb-true (numberOf r) 0 (b .1))
 
 -- and it is so with a later last number
-owned-later : (d c : Durable) (lives r : List ℕ) → lastOf (only d) ≤ lastOf (only c) → ownedRight d lives r ≡ true → ownedRight c lives r ≡ true
+pub owned-later : (d c : Durable) (lives r : List ℕ) → lastOf (only d) ≤ lastOf (only c) → ownedRight d lives r ≡ true → ownedRight c lives r ≡ true
 owned-later d c lives r m h = go (committed r) h
   where
     rest : Bool
@@ -57,7 +57,7 @@ owned-later d c lives r m h = go (committed r) h
     go false k = k
 
 -- a test of committed rows, where it holds of this one if it is committed
-if-committed : (b t u : Bool) → (b ≡ true → t ≡ true → u ≡ true) → (not b || t) ≡ true → (not b || u) ≡ true
+pub if-committed : (b t u : Bool) → (b ≡ true → t ≡ true → u ≡ true) → (not b || t) ≡ true → (not b || u) ≡ true
 if-committed true t u f h = f refl h
 if-committed false t u f h = refl
 
@@ -70,7 +70,7 @@ last-apart : (a b : List ℕ) → committed b ≡ true → apart a b ≡ true
 unfolding apart
 last-apart a b h = go (committed a)
   where
-    go : (t : Bool) → (t || committed b || eqb (ownerOf a) (ownerOf b) || not (shareByte a b)) ≡ true
+    go : (t : Bool) → (t || committed b || eqb (ownerOf a) (ownerOf b) || free a b) ≡ true
     go true = refl
     go false = rw h
 
@@ -94,7 +94,7 @@ module _ (s : Lent) (x : ℕ) (e : sound s ≡ true) (low : 1 ≤ x) (high : x �
   holds = sound-holds s e
 
   logs : loggedOf s + k ≤ 4294967295
-  logs = omega (arith, sound-sized s e .span)
+  logs = omega (arith, sound-sized s e .log-size)
 
   last-on : lastOf after ≡ lastOf s + k
   last-on = last-commit s (durable .marks) x numbers logs

@@ -2,7 +2,7 @@
 use Prim.Native.Nat.{ℕ, _+_, _-_, _^_, _≤_, _<_}
 use native.Mathlib.Omega.{arith}
 use mathlib.Core.Path.{_≡_, refl, sym, ap, _∙_, subst}
-use mathlib.Core.Bool.{Bool, true, false, cond, not, _||_, or-true, or-false}
+use mathlib.Core.Bool.{Bool, true, false, cond, _||_, or-true, or-false}
 use mathlib.Core.List.{List, [], _∷_, _++_}
 use lib.ListN.{length, getD, set}
 use lib.Seq.{getD-set-same, getD-set-other}
@@ -17,16 +17,14 @@ use Rattle.rules.specs.Lent.{Lent, Durable, sizeOf, pagesOf, framesOf, onlineSi
 use Rattle.rules.specs.Shape.{Sized}
 use Rattle.rules.specs.Sound.{every, apart, sound}
 use Rattle.rules.specs.Steps.{placed, placeOf, rebuilt, fetchedEntries, readStep, updated}
-use Rattle.rules.specs.Calls.{clashes, held, isNumber, isLive}
+use Rattle.rules.specs.Calls.{heldToUpdate, isNumber, isLive}
 use Rattle.rules.proofs.Verdicts.{number-least, number-most}
-use Rattle.rules.proofs.Every.{every-imp}
-use Rattle.redo.proofs.Reader.{none-each}
-use Rattle.redo.proofs.Numbered.{row-page, row-offset, row-length, row-kind, row-value, row-owner, row-number}
+use Rattle.record.proofs.Fields.{row-page, row-offset, row-length, row-kind, row-value, row-owner, row-number}
 use Rattle.seats.proofs.Seated.{Seated}
 use Rattle.seats.proofs.Places.{dirty-dirty, placed-in, placed-frame, placed-dirty, seated-below, seated-length, seated-frame, seated-touch, seated-place, seated-dirty}
 use Rattle.readback.proofs.Seen.{livesOf, Whole}
 use Rattle.readback.proofs.Lost.{entry-whole, live-whole, entries-length, length-fetched, length-rebuilt, reads-read, reads-updated}
-use Rattle.keeps.proofs.Tests.{every-all, every-last, pairs-last, any-last, differ, differ-by, apart-row}
+use Rattle.keeps.proofs.Tests.{every-all, every-last, pairs-last, any-last, differ, differ-by, apart-each}
 use Rattle.keeps.proofs.Clauses.{ownedRight, inLog, stampBelow, HoldsIn, sound-durable, sound-sized, sound-whole, sound-holds, sound-by, durable-again}
 
 -- page p is in frame f by these entries, the latest used, and each page is as dirty as before
@@ -150,7 +148,7 @@ module _ (s : Lent) (e : sound s ≡ true) (r : List ℕ) (m : pageOf r < pagesO
   unfolding updated
   sound-append =
       let h : HoldsIn s = sound-holds s e in
-      let w = reads-updated s r (sound-whole s e) long (omega arith) (sound-sized s e .room) (order-fits s e page m) (below s e page m) (rebuilt-length s e page m) in
+      let w = reads-updated s r (sound-whole s e) long (omega arith) (sound-sized s e .online-size) (order-fits s e page m) (below s e page m) (rebuilt-length s e page m) in
       let k : page < length (fetchedEntries s page) = omega (arith, length-fetched s page (sound-whole s e .areas)) in
       sound-by (durable-again (s .durable) (s .lost) (updated s r .lent .lost) (sound-durable s e) (w .areas)) w
       (record {
@@ -167,7 +165,7 @@ module _ (s : Lent) (e : sound s ≡ true) (r : List ℕ) (m : pageOf r < pagesO
 
 -- an update by an owner that is live, with arguments in range, where nobody else holds a byte and a row is free
 module _ (s : Lent) (x p offset w kind v : ℕ) (e : sound s ≡ true) (a : p < pagesOf s) (b : isNumber x ≡ true) (d : isLength w ≡ true) (f : offset + w ≤ sizeOf s) (g : v < 256 ^ w) (i : kind ≤ 1)
-    (j : isLive (s .lost .tables) x ≡ true) (k : held (onlineOf s) x p offset w ≡ false) (l : countOf s < onlineSizeOf s) where
+    (j : isLive (s .lost .tables) x ≡ true) (k : heldToUpdate (onlineOf s) (rowOf p offset w kind v x) ≡ false) (l : countOf s < onlineSizeOf s) where
   abbrev row : List ℕ
   row = rowOf p offset w kind v x
 
@@ -198,10 +196,5 @@ module _ (s : Lent) (x p offset w kind v : ℕ) (e : sound s ≡ true) (a : p < 
       let t : eqb (getD (livesOf s) (x - 1) 0) 1 ≡ true = ap (λ (y : ℕ). eqb y 1) (sym (live-whole s x (sound-whole s e) (number-least x b) (number-most x b))) ∙ j in
       rw (row-unset, its-owner, n, le-leb x 32 (number-most x b)) t
 
-  row-apart : every (λ (y : List ℕ). apart y row) (onlineOf s) ≡ true
-  row-apart =
-      every-imp (λ (y : List ℕ). not (clashes x p offset w y)) (λ (y : List ℕ). apart y row) (λ y z. apart-row x p offset w row its-page its-offset its-length its-owner y z) (onlineOf s)
-      (none-each (clashes x p offset w) (onlineOf s) k)
-
   pub sound-update : sound (updated s (rowOf p offset w kind v x) .lent) ≡ true
-  sound-update = sound-append s e row (rw its-page a) (length-rowOf p offset w kind v x) l row-formed row-unset (row-number p offset w kind v x) row-owned row-apart
+  sound-update = sound-append s e row (rw its-page a) (length-rowOf p offset w kind v x) l row-formed row-unset (row-number p offset w kind v x) row-owned (apart-each (onlineOf s) row k)

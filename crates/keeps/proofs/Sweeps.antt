@@ -1,22 +1,22 @@
 -- A checkpoint with min_del 1 on any sound tables: no committed record is online afterwards, the log is empty, and the records of open transactions are there still.
 use Prim.Native.Nat.{ℕ, zero, suc, _+_, _*_, _-_, _≤_, _<_}
 use native.Mathlib.Omega.{arith}
-use mathlib.Core.Path.{_≡_, refl, sym, ap, _∙_, subst}
+use mathlib.Core.Path.{_≡_, refl, sym, ap, _∙_}
 use mathlib.Core.Bool.{Bool, true, false, cond, not, _&&_, _||_, true≢false}
 use mathlib.Core.List.{List, []}
 use lib.ListN.{length, replicate, length-replicate}
 use lib.Dec.{eqb, leb, ltb}
-use borrow.Author.Tests.{eqb-false, eq-eqb, leb-false, ltb-true, ltb-false, lt-ltb, le-ltb, not-true}
+use borrow.Author.Tests.{eqb-false, eq-eqb, leb-false, ltb-false, le-ltb}
 use Rattle.word.specs.Word.{num, put}
 use Rattle.word.proofs.Laws.{length-put}
 use Rattle.word.proofs.Puts.{num-put}
 use Rattle.record.specs.Part.{withPart}
 use Rattle.record.specs.Rows.{keep, any}
-use Rattle.record.specs.Record.{pageOf, committed, onPage, committedOn, gone, greatest, smallest}
+use Rattle.record.specs.Record.{pageOf, committed, committedOn, greatest, smallest}
 use Rattle.record.proofs.Parts.{length-with}
-use Rattle.rules.specs.Lent.{Lent, sizeOf, pagesOf, onlineSizeOf, logSizeOf, lastOf, loggedOf, stampAt, dirtyAt, onlineOf}
+use Rattle.rules.specs.Lent.{Lent, sizeOf, pagesOf, onlineSizeOf, lastOf, loggedOf, stampAt, dirtyAt, onlineOf}
 use Rattle.rules.specs.Sound.{every, sound}
-use Rattle.rules.specs.Steps.{left, foldable, due, unfolded, compacted, compactStep, lowered, droppedBy, closed, afterPages, checkpointed}
+use Rattle.rules.specs.Steps.{left, foldable, due, compacted, compactStep, lowered, droppedBy, closed, afterPages, checkpointed}
 use Rattle.rules.proofs.Every.{every-keep, every-kept-where}
 use Rattle.rules.proofs.Extremes.{smallest-nothing}
 use Rattle.rules.proofs.Needed.{unfolded-open}
@@ -81,7 +81,7 @@ module _ (s : Lent) (e : sound s ≡ true) (maxAge : ℕ) where
   sweep-one t j k w = go (due t j 1 maxAge) refl
     where
       few : onlineSizeOf t ≤ 512
-      few = rw (w .fixed) (sound-sized s e .room)
+      few = rw (w .fixed) (sound-sized s e .online-size)
 
       there : j < pagesOf t
       there = rw (w .fixed) k
@@ -93,8 +93,8 @@ module _ (s : Lent) (e : sound s ≡ true) (maxAge : ℕ) where
             reads = whole r;
             fixed = w .fixed;
             marks = length-put 4 (t .durable .marks) (stampAt j) (greatest 0 (foldable t j)) ∙ w .marks;
-            below = ap (λ (l : List (List ℕ)). pagesBelow (pagesOf s) l) (r .online-read) ∙ every-keep (λ (x : List ℕ). not (gone false 0 j x)) (λ (x : List ℕ). ltb (pageOf x) (pagesOf s)) (onlineOf t) (w .below);
-            swept = ap (λ (l : List (List ℕ)). every (past (suc j)) l) (r .online-read) ∙ every-kept-where (λ (x : List ℕ). not (gone false 0 j x)) (past j) (past (suc j)) (past-more j) (onlineOf t) (w .swept);
+            below = ap (λ (l : List (List ℕ)). pagesBelow (pagesOf s) l) (r .online-read) ∙ every-keep (λ (x : List ℕ). not (committedOn j x)) (λ (x : List ℕ). ltb (pageOf x) (pagesOf s)) (onlineOf t) (w .below);
+            swept = ap (λ (l : List (List ℕ)). every (past (suc j)) l) (r .online-read) ∙ every-kept-where (λ (x : List ℕ). not (committedOn j x)) (past j) (past (suc j)) (past-more j) (onlineOf t) (w .swept);
             still = ap (λ (l : List (List ℕ)). keep uncommitted l) (r .online-read) ∙ unfolded-open t j ∙ w .still;
           }
       go false d =

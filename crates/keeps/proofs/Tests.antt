@@ -2,34 +2,26 @@
 use Prim.Native.Nat.{ℕ, zero, suc, _+_, _<_}
 use native.Mathlib.Omega.{arith}
 use mathlib.Core.Path.{_≡_, refl, sym, ap, _∙_}
-use mathlib.Core.Bool.{Bool, true, false, not, _&&_, _||_, or-false, or-assoc}
+use mathlib.Core.Bool.{Bool, true, false, not, _&&_, _||_, or-false, or-assoc, Bool·not-not}
 use mathlib.Core.List.{List, [], _∷_, _++_}
-use lib.Dec.{eqb, ltb}
+use lib.ListN.{drop}
+use lib.Dec.{eqb}
 use borrow.Author.Tests.{eqb-true, eqb-false, eq-eqb, not-true}
 use Rattle.word.proofs.Tests.{and-both, and-in}
 use Rattle.record.specs.Rows.{keep, consIf, any}
-use Rattle.record.specs.Record.{pageOf, offsetOf, lengthOf, ownerOf, numberOf, committed, shareByte}
+use Rattle.record.specs.Record.{numberOf}
 use Rattle.rules.specs.Sound.{every, pairs, upTo, agree, apart, same}
-use Rattle.rules.specs.Calls.{clashes}
-use Rattle.rules.proofs.Every.{or-left, or-right, every-keep}
-use Rattle.seats.proofs.Counting.{upTo-all as upTo-from}
+use Rattle.rules.specs.Calls.{heldToUpdate}
+use Rattle.rules.proofs.Every.{or-left, or-right, every-keep, every-imp}
+use Rattle.redo.proofs.Reader.{none-each}
+use Rattle.rules.proofs.Walks.{upTo-all as upTo-from, upTo-at as at-from}
 
 -- each of n numbers passes a test
 pub upTo-all : (b : ℕ → Bool) (n : ℕ) → ((i : ℕ) → i < n → b i ≡ true) → upTo b n 0 ≡ true
-upTo-all b n h = upTo-from b n 0 (λ i k. ap b (omega arith) ∙ h i k)
-
-upTo-at-from : (b : ℕ → Bool) (n a i : ℕ) → upTo b n a ≡ true → i < n → b (a + i) ≡ true
-unfolding upTo
-upTo-at-from b zero a i h k = absurd (omega arith)
-upTo-at-from b (suc n) a zero h k =
-    let e : a + 0 ≡ a = omega arith in
-    rw e (and-both (b a) (upTo b n (a + 1)) h .0)
-upTo-at-from b (suc n) a (suc i) h k =
-    let e : a + suc i ≡ a + 1 + i = omega arith in
-    rw e (upTo-at-from b n (a + 1) i (and-both (b a) (upTo b n (a + 1)) h .1) (omega arith))
+upTo-all b n h = upTo-from b n 0 (λ i k l. h i (omega arith))
 
 pub upTo-at : (b : ℕ → Bool) (n i : ℕ) → upTo b n 0 ≡ true → i < n → b i ≡ true
-upTo-at b n i h k = ap b (omega arith) ∙ upTo-at-from b n 0 i h k
+upTo-at b n i h k = at-from b n 0 i (omega arith) (omega arith) h
 
 -- two tests that agree
 pub agree-same : (a b : Bool) → a ≡ b → agree a b ≡ true
@@ -74,6 +66,25 @@ unfolding any
 any-last b [] r = or-false (b r)
 any-last b (x ∷ l) r = ap (λ (t : Bool). b x || t) (any-last b l r) ∙ sym (or-assoc (b x) (any b l) (b r))
 
+-- rows behind some
+pub every-drop : (b : List ℕ → Bool) (n : ℕ) (l : List (List ℕ)) → every b l ≡ true → every b (drop n l) ≡ true
+unfolding every
+every-drop b zero l h = h
+every-drop b (suc n) [] h = h
+every-drop b (suc n) (r ∷ l) h = every-drop b n l (and-both (b r) (every b l) h .1)
+
+-- what those kept pass, told of all
+pub picked-every : (a c : List ℕ → Bool) (l : List (List ℕ)) → every c (keep a l) ≡ true → every (λ (r : List ℕ). not (a r) || c r) l ≡ true
+unfolding every keep
+picked-every a c [] h = refl
+picked-every a c (r ∷ l) h = pick (a r) (picked-every a c l) h
+  where
+    pick : (t : Bool) → (every c (keep a l) ≡ true → every (λ (q : List ℕ). not (a q) || c q) l ≡ true) → every c (consIf t r (keep a l)) ≡ true → ((not t || c r) && every (λ (q : List ℕ). not (a q) || c q) l) ≡ true
+    pick true f k =
+        let e : (c r ≡ true) × (every c (keep a l) ≡ true) = and-both (c r) (every c (keep a l)) k in
+        and-in (c r) (every (λ (q : List ℕ). not (a q) || c q) l) (e .0) (f (e .1))
+    pick false f k = f k
+
 -- each two of those kept
 pub pairs-keep : (a : List ℕ → Bool) (b : List ℕ → List ℕ → Bool) (l : List (List ℕ)) → pairs b l ≡ true → pairs b (keep a l) ≡ true
 unfolding pairs keep
@@ -110,15 +121,8 @@ differ-then a b h e = go (eqb (numberOf a) 0) refl h
     go true k p = eqb-true (numberOf a) 0 k
     go false k p = absurd (eqb-false (numberOf a) (numberOf b) (not-true (eqb (numberOf a) (numberOf b)) p) e)
 
--- S13 of a record and a new one: refusal 6 did not come, so the new one is apart from it
-pub apart-row : (x p offset w : ℕ) (r : List ℕ) → pageOf r ≡ p → offsetOf r ≡ offset → lengthOf r ≡ w → ownerOf r ≡ x → (a : List ℕ) → not (clashes x p offset w a) ≡ true → apart a r ≡ true
-unfolding clashes apart shareByte
-apart-row x p offset w r e₁ e₂ e₃ e₄ a h =
-    rw (e₁, e₂, e₃) (ap (λ (y : ℕ). committed a || eqb y 0 || eqb (ownerOf a) y || not (eqb (pageOf a) p && ltb (offsetOf a) (offset + w) && ltb offset (offsetOf a + lengthOf a))) e₄
-    ∙ go (committed a) (eqb x 0) (eqb (ownerOf a) x) (eqb (pageOf a) p) (ltb (offsetOf a) (offset + w)) (ltb offset (offsetOf a + lengthOf a)) h)
-  where
-    go : (c d o y z u : Bool) → not (not c && not o && y && z && u) ≡ true → (c || d || o || not (y && z && u)) ≡ true
-    go true d o y z u k = refl
-    go false true o y z u k = refl
-    go false false true y z u k = refl
-    go false false false y z u k = k
+-- S13: refusal 6 did not come, so the new row is apart from each
+pub apart-each : (l : List (List ℕ)) (r : List ℕ) → heldToUpdate l r ≡ false → every (λ (a : List ℕ). apart a r) l ≡ true
+apart-each l r h =
+    every-imp (λ (a : List ℕ). not (not (apart a r))) (λ (a : List ℕ). apart a r) (λ a k. sym (Bool·not-not (apart a r)) ∙ k) l
+    (none-each (λ (a : List ℕ). not (apart a r)) l h)
