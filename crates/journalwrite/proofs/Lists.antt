@@ -16,7 +16,7 @@ use Rattle.journal.specs.Layout.{isSize, isSector, wholePages, firstBytes, byte
 use Rattle.journal.specs.Writing.{anyPast, savedPage, journalLength, journalBytes}
 use Rattle.journal.specs.Calls.{refuseIf, writeCode, writeCall, Told}
 use Rattle.journal.proofs.Tells.{refused-by, passed-by, went-by, told-no, size-range, sector-range, pages-range}
-use Rattle.journal.proofs.Writes.{length-header, length-record, page-span, Fit}
+use Rattle.journal.proofs.Writes.{length-header, length-record, length-page}
 use Rattle.journalwrite.proofs.Fills.{behind}
 
 -- `page_end`: the product fits
@@ -102,7 +102,7 @@ module _ (nonce size : ℕ) (pages : List ℕ) where
             let r : List ℕ = recordBytes nonce size (savedPage size pages (getD list i 0)) in
             let x : List ℕ = take start t ++ recordsBytes nonce size (map (savedPage size pages) (take i list)) in
             let s : i + 1 ≡ suc i = omega arith in
-            let n : length r ≡ size + 8 = length-record nonce size pages (getD list i 0) k in
+            let n : length r ≡ size + 8 = length-record nonce size (savedPage size pages (getD list i 0)) (length-page size (getD list i 0) pages k) in
             let more : take start t ++ recordsBytes nonce size (map (savedPage size pages) (take (i + 1) list)) ≡ x ++ r =
             rw (s, snoc list i h) (sym (append-assoc (take start t) (recordsBytes nonce size (map (savedPage size pages) (take i list))) r))
             in
@@ -123,15 +123,7 @@ pub page-put : (at p size nonce : ℕ) (pages t t₁ : List ℕ) → (p + 1) * s
     → t₁ ≡ withPart at (size + 8) t (recordBytes nonce size (savedPage size pages p))
 page-put at p size nonce pages t t₁ h e =
     let d : p * size + size - p * size ≡ size = omega arith in
-    let s : (p + 1) * size ≡ p * size + size = page-span p size in
-    let n : length (part (p * size) size pages) ≡ size = length-part (p * size) size pages (omega arith) in
-    e ∙ rw d (rw n refl)
-
-pub page-length : (p size : ℕ) (pages : List ℕ) → (p + 1) * size ≤ length pages → length (take (p * size + size - p * size) (drop (p * size) pages)) ≡ size
-page-length p size pages h =
-    let d : p * size + size - p * size ≡ size = omega arith in
-    let s : (p + 1) * size ≡ p * size + size = page-span p size in
-    rw d (length-part (p * size) size pages (omega arith))
+    e ∙ rw d (rw (length-page size p pages h) refl)
 
 -- the whole journal: the header, then the records
 pub all-written : (pages list t t₁ t₂ : List ℕ) (size nonce sector : ℕ) → 28 ≤ sector

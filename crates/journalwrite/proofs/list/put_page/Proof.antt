@@ -1,7 +1,6 @@
 -- The page is lent as it lies.
-use native.Mathlib.Omega.{arith}
 use denote.Ref.{now}
-use Rattle.journalwrite.proofs.Lists.{page-put, page-length}
+use Rattle.journalwrite.proofs.Lists.{page-put}
 use borrow.Author.Needs.{needs}
 use Rattle.journalwrite.proofs.list.put_page.Statement.{statement}
 use Rattle.journalwrite.proofs.list.put_page.Tie as tie
