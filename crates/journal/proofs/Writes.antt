@@ -2,17 +2,17 @@
 use Prim.Native.Nat.{ℕ, zero, suc, _+_, _*_, _-_, _/_, _≤_, _<_}
 use native.Mathlib.Omega.{arith}
 use native.Mathlib.Nat.{add-mul, one-mul, le-div-iff-mul-le}
-use mathlib.Core.Path.{_≡_, refl, sym, ap, _∙_}
-use mathlib.Core.Bool.{Bool, true, false, not, _&&_, _||_}
+use mathlib.Core.Path.{_≡_, refl, ap, _∙_}
+use mathlib.Core.Bool.{Bool, true, false, _&&_, _||_}
 use mathlib.Core.List.{List, [], _∷_, _++_}
 use lib.ListN.{length, getD, replicate, length-append, length-replicate}
-use lib.Dec.{eqb, ltb, leb}
+use lib.Dec.{ltb, leb}
 use borrow.Author.Tests.{ltb-false, leb-true, not-false}
 use Rattle.word.proofs.Tests.{and-both}
 use Rattle.record.specs.Part.{part}
 use Rattle.record.proofs.Parts.{length-part}
 use Rattle.journal.specs.Layout.{isSize, isSector, wholePages, firstBytes, bytesOf, headerBytes, Saved, recordBytes, checksum}
-use Rattle.journal.specs.Writing.{anyPast, savedPage, journalLength}
+use Rattle.journal.specs.Writing.{anyPast, journalLength}
 use Rattle.journal.specs.Calls.{writeCode}
 use Rattle.journal.proofs.Tells.{went-by, size-range, sector-range, pages-range}
 
@@ -96,4 +96,3 @@ fit list lent room size sector z =
       pages = pages-range size lent (not-false (wholePages size lent) (c .0)) .2;
       space = ltb-false room (journalLength sector size (length list)) (d .0);
     }
-

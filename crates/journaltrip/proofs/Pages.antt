@@ -1,5 +1,5 @@
 -- Pages written back one by one: each page is the listed one's image, or as it was.
-use Prim.Native.Nat.{ℕ, zero, suc, _+_, _*_, _-_, _/_, _≤_, _<_}
+use Prim.Native.Nat.{ℕ, suc, _+_, _*_, _-_, _≤_, _<_}
 use native.Mathlib.Omega.{arith}
 use native.Mathlib.Nat.{mul-le-mul-right, suc-mul, eq-or-lt-of-le}
 use mathlib.Core.Path.{_≡_, refl, sym, ap, _∙_}
@@ -90,7 +90,7 @@ all-back size pages (q ∷ qs) g h a =
     record {
       long = rest .long ∙ one;
       each = λ p.
-      rest .each p
-      ∙ ap (λ (x : List ℕ). cond (isListed p qs) (part (p * size) size pages) x) (each-one size q pages g there fits p)
-      ∙ later (eqb p q) (isListed p qs) (part (p * size) size pages) (part (p * size) size g);
+          rest .each p
+          ∙ ap (λ (x : List ℕ). cond (isListed p qs) (part (p * size) size pages) x) (each-one size q pages g there fits p)
+          ∙ later (eqb p q) (isListed p qs) (part (p * size) size pages) (part (p * size) size g);
     }

@@ -1,16 +1,15 @@
 -- A journal that was written, read back: its header's fields, and its records.
-use Prim.Native.Nat.{ℕ, zero, suc, _+_, _*_, _-_, _/_, _≤_, _<_}
+use Prim.Native.Nat.{ℕ, suc, _+_, _≤_, _<_}
 use native.Mathlib.Omega.{arith}
 use mathlib.Core.Path.{_≡_, refl, sym, ap, _∙_}
-use mathlib.Core.Bool.{Bool, true, false, cond, _&&_}
+use mathlib.Core.Bool.{true}
 use mathlib.Core.List.{List, [], _∷_, _++_, append-assoc}
 use lib.ListN.{length, take, drop, length-append}
 use lib.Seq.{take-at, drop-at}
-use lib.Dec.{eqb, ltb, leb}
-use borrow.Author.Tests.{eq-eqb, ne-eqb, le-ltb, le-leb}
+use borrow.Author.Tests.{eq-eqb, le-ltb, le-leb}
 use Rattle.record.specs.Part.{part}
 use Rattle.journal.specs.Layout.{big, bytesOf, firstBytes, countOf, nonceOf, sectorOf, sizeOf, isSector, same, isHeader, checksum, Saved, savedOf, sumOf, records, recordBytes, recordsBytes, headerBytes}
-use Rattle.journal.specs.Playing.{counted, faultOf, Run, run}
+use Rattle.journal.specs.Playing.{faultOf, Run, run}
 use Rattle.journal.proofs.Laws.{big-front, big-drop}
 use Rattle.journal.proofs.Writes.{length-bytes, length-header, length-record}
 

@@ -1,17 +1,17 @@
 -- The theorem: written, then the pages changed in any way, then played back.
-use Prim.Native.Nat.{ℕ, zero, suc, _+_, _*_, _-_, _/_, _%_, _^_, _≤_, _<_}
+use Prim.Native.Nat.{ℕ, zero, suc, _+_, _*_, _/_, _%_, _^_, _≤_, _<_}
 use native.Mathlib.Omega.{arith}
 use native.Mathlib.Nat.{le-div-iff-mul-le}
 use mathlib.Core.Path.{_≡_, refl, sym, ap, _∙_, subst}
-use mathlib.Core.Bool.{Bool, true, false, cond, not, _||_}
+use mathlib.Core.Bool.{true, false, not}
 use mathlib.Core.List.{List, [], _∷_, _++_, append-assoc, map}
 use lib.ListN.{length, drop}
 use lib.Seq.{drop-at}
-use lib.Dec.{eqb, ltb}
+use lib.Dec.{ltb}
 use borrow.Author.Tests.{ne-eqb, le-ltb, ltb-false}
 use Rattle.journal.specs.declared.Reply.{Reply}
-use Rattle.journal.specs.Layout.{isSize, wholePages, isHeader, countOf, nonceOf, sectorOf, Saved, records, headerBytes, recordsBytes}
-use Rattle.journal.specs.Playing.{bodyOf, counted, Run, run, runOf, toRestore, isOutside, outside, restored}
+use Rattle.journal.specs.Layout.{isSize, wholePages, isHeader, nonceOf, Saved, records, headerBytes, recordsBytes}
+use Rattle.journal.specs.Playing.{bodyOf, counted, Run, run, runOf, toRestore, outside, restored}
 use Rattle.journal.specs.Writing.{anyPast, savedPage, journalLength, journalBytes}
 use Rattle.journal.specs.Calls.{Outcome, settled, playCode, playCall, writeCode, writeCall, Told}
 use Rattle.journal.proofs.Tells.{passed-by}
@@ -159,11 +159,10 @@ module _ (pages list target now : List ℕ) (size nonce sector : ℕ) (u : nonce
   -- "written and played back, it restores them exactly"
   pub round-trip : (playCall (writeCall pages list target size nonce sector .bytes) now size .reply ≡ record { code = 0; ended = 0; records = length list })
       × BroughtBack size list pages now (playCall (writeCall pages list target size nonce sector .bytes) now size .bytes)
-  round-trip =
-      (
-        ap (λ (o : Outcome). o .reply) outcome,
-        subst (λ (l : List ℕ). BroughtBack size list pages now l) (sym (ap (λ (o : Outcome). o .bytes) outcome)) (all-back size pages list now same (fits .lent-all)),
-      )
+  round-trip = (
+    ap (λ (o : Outcome). o .reply) outcome,
+    subst (λ (l : List ℕ). BroughtBack size list pages now l) (sym (ap (λ (o : Outcome). o .bytes) outcome)) (all-back size pages list now same (fits .lent-all)),
+  )
 
 -- the same of what the two exported functions tell and leave
 pub doors-trip : (pages list target now : List ℕ) (size nonce sector : ℕ) (w r : Reply) (j after : List ℕ) → nonce < 2 ^ 32 → length now ≡ length pages
@@ -172,8 +171,7 @@ pub doors-trip : (pages list target now : List ℕ) (size nonce sector : ℕ) (w
 doors-trip pages list target now size nonce sector w r j after u same tw z tr =
     let done : writeCall pages list target size nonce sector .reply .code ≡ 0 = sym (ap (λ (x : Reply). x .code) (tw .reply)) ∙ z in
     let t = round-trip pages list target now size nonce sector u same done in
-    let e : playCall j now size ≡ playCall (writeCall pages list target size nonce sector .bytes) now size = ap (λ (l : List ℕ). playCall l now size) (tw .bytes) in
-    (
+    let e : playCall j now size ≡ playCall (writeCall pages list target size nonce sector .bytes) now size = ap (λ (l : List ℕ). playCall l now size) (tw .bytes) in (
       tr .reply ∙ ap (λ (o : Outcome). o .reply) e ∙ t .0,
       subst (λ (l : List ℕ). BroughtBack size list pages now l) (sym (tr .bytes ∙ ap (λ (o : Outcome). o .bytes) e)) (t .1),
     )

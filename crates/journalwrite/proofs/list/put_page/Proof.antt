@@ -30,7 +30,7 @@ same-length : tie.Need-same-length
 same-length c = search needs
 
 returns : tie.Need-returns
-returns c = 
+returns c =
     let s = c .before .before .before .before .before .before .before in
     let a = s .args in
     page-put (a .at) (a .p) (a .size) (a .nonce) (now (a .pages)) (now (a .target)) _ (s .pre .3) (c .before .before .put-record .ensures)
