@@ -4,7 +4,8 @@
  * first. A game holds row 2. It is deleted, and the clearing of its row is committed under transaction number 3. Then
  * number 3 is given out again, to the torch, which claims the free row and cancels; and the power goes. A store that
  * took the cancel for the older transaction of that number would bring the game back, and the torch would be charged
- * for it. Here the power goes at five moments, and the torch's charge must be right at the end.
+ * for it. Here the power goes at five moments, and the torch's charge must be right at the end. Then the table is shown
+ * that the battery screen would show.
  *
  * usage: torch FILE      a file that is not there yet
  * Exit 0 and a last line 'story held'; else 1 and a line that says what went wrong.
@@ -17,7 +18,7 @@
 
 enum { ROW = 16, PAGE = 512, PAGES = 4 };
 static const struct filestore_sizes sizes = {.page_size = PAGE, .pages = PAGES, .frames = 2, .online = 16, .log = 16};
-static const uint64_t NOBODY = 0, GAME = 7001, TORCH = 9002;
+static const uint64_t NOBODY = 0, SCREEN = 1001, RADIO = 1002, GAME = 7001, TORCH = 9002;
 
 static struct filestore store;
 static const char *path;
@@ -47,6 +48,12 @@ static void open_store(void)
 {
     if (!filestore_open(&store, path, sizes, stdout))
         stop("the store did not open", "do as the line of filestore says");
+}
+
+static const char *name_of(uint64_t who)
+{
+    return who == NOBODY ? "nobody" : who == SCREEN ? "the screen" : who == RADIO ? "the radio" : who == GAME ? "the game" :
+        who == TORCH ? "the torch" : "a stranger";
 }
 
 /* The memory is gone, and comes back with noise in it; the file stays. */
@@ -87,8 +94,7 @@ static void expect(uint32_t row, uint64_t who, uint64_t used)
     must(filestore_read(&store, bytes, sizeof bytes, 4, row * ROW / PAGE, row * ROW % PAGE, ROW), VENTARICO_DONE);
     cancel(4);
     uint64_t is = number_at(bytes), has = number_at(bytes + 8);
-    printf("  = row %" PRIu32 ": %s, charge %" PRIu64 "\n", row,
-        is == NOBODY ? "nobody" : is == GAME ? "the game" : is == TORCH ? "the torch" : "a stranger", has);
+    printf("  = row %" PRIu32 ": %s, charge %" PRIu64 "\n", row, name_of(is), has);
     if (is != who || has != used) {
         char what[128];
         snprintf(what, sizeof what,
@@ -96,6 +102,31 @@ static void expect(uint32_t row, uint64_t who, uint64_t used)
             who, used, is, has);
         stop(what, "tests/c/run tells which call is at fault; if none is, look at examples/filestore.c");
     }
+}
+
+/* The rows that somebody holds, as the battery screen shows them. Answers the sum of their charges. */
+static uint64_t show_battery_screen(void)
+{
+    static uint8_t page[PAGE];
+    uint64_t sum = 0;
+    FILE *talk = store.talk;
+    store.talk = NULL;
+    begin(6);
+    printf("\n  Battery use\n  row  app          identifier   charge\n");
+    for (uint32_t row = 0; row < PAGES * PAGE / ROW; row++) {
+        const uint8_t *at = page + row * ROW % PAGE;
+        if (row * ROW % PAGE == 0)
+            must(filestore_read(&store, page, sizeof page, 6, row * ROW / PAGE, 0, PAGE), VENTARICO_DONE);
+        if (number_at(at) == NOBODY && number_at(at + 8) == 0)
+            continue;
+        printf("  %3" PRIu32 "  %-12s %10" PRIu64 " %8" PRIu64 "\n", row, name_of(number_at(at)), number_at(at),
+            number_at(at + 8));
+        sum += number_at(at + 8);
+    }
+    cancel(6);
+    store.talk = talk;
+    printf("       in all                  %8" PRIu64 "\n", sum);
+    return sum;
 }
 
 int main(int count, char **words)
@@ -107,12 +138,17 @@ int main(int count, char **words)
     path = words[1];
     setvbuf(stdout, NULL, _IOLBF, 0);
 
-    FILE *there = fopen(path, "rb");
-    if (there)
-        stop("the file is there already", "name one that is not: the story begins with a new store");
-
     printf("A new store, in a file.\n");
-    open_store();
+    if (!filestore_create(&store, path, sizes, stdout))
+        stop("the store was not made", "do as the line of filestore says");
+
+    tell("The screen has row 0 and has used a charge of 310, the radio has row 1 and 120.");
+    begin(1);
+    set_owner(1, 0, SCREEN);
+    charge(1, 0, VENTARICO_SET, 310);
+    set_owner(1, 1, RADIO);
+    charge(1, 1, VENTARICO_SET, 120);
+    commit(1);
 
     tell("The game takes row 2 and uses a charge of 700. It is put into its page.");
     begin(1);
@@ -177,18 +213,17 @@ int main(int count, char **words)
     power_loss();
     expect(2, TORCH, 50);
 
-    tell("The game is nowhere in the store, and all other rows are free.");
-    static uint8_t page[PAGE];
-    begin(6);
-    for (uint32_t p = 0; p < PAGES; p++) {
-        must(filestore_read(&store, page, sizeof page, 6, p, 0, PAGE), VENTARICO_DONE);
-        for (uint32_t i = 0; i < PAGE; i += ROW)
-            if (p * PAGE + i != 2 * ROW && (number_at(page + i) != NOBODY || number_at(page + i + 8) != 0))
-                stop("a row that nobody took is not free", "run tests/c/run, and look at examples/filestore.c");
-    }
-    cancel(6);
-    filestore_drop(&store);
+    tell("The screen and the radio have what they had. The store is left: its file is then whole without the journal.");
+    expect(0, SCREEN, 310);
+    expect(1, RADIO, 120);
+    if (!filestore_leave(&store))
+        stop("the store was not left as it should be", "do as the line of filestore says");
+    open_store();
 
-    printf("\nThe torch has used 40 + 2 + 8 = 50, and the game's 700 are gone.\nstory held\n");
+    tell("The torch has used 40 + 2 + 8 = 50; the game's 700 are gone, and no other row is held:");
+    if (show_battery_screen() != 310 + 120 + 50)
+        stop("the charges do not add up to 480", "run tests/c/run, and look at examples/filestore.c");
+    filestore_drop(&store);
+    printf("\nstory held\n");
     return 0;
 }

@@ -10,9 +10,9 @@ ghost use Rattle.rules.specs.Lent.{pagesOf, lastOf, loggedOf};
 ghost use Rattle.rules.specs.Areas.{areas, before, after};
 ghost use Rattle.rules.specs.Shape.{Shaped};
 ghost use Rattle.rules.specs.Steps.{compactStep, checkpointed};
-ghost use Rattle.onlinecheck.specs.Marks.{markPages};
+ghost use Rattle.table.specs.Marks.{markPages};
 ghost use Rattle.checkpoint.specs.Noted.{Noted};
-ghost use Rattle.checkpoint.specs.After.{After};
+ghost use Rattle.checkpoint.specs.Halfway.{Halfway};
 use compact::Compacted;
 use number::PageNo;
 
@@ -97,7 +97,7 @@ fn compact_all(
     seen: &[u8],
 ) -> Compacted
     requires { ⌜ Shaped (areas fixed marks log stored tables online pool) × (loggedOf (areas fixed marks log stored tables online pool) ≤ lastOf (areas fixed marks log stored tables online pool)) × Noted (now seen) (areas fixed marks log stored tables online pool) ⌝ }
-    ensures { λ r. ⌜ After «min_del» «max_age» (before fixed marks log stored tables online pool) (after fixed marks log stored tables online pool) (r .reads) (r .writes) (pagesOf (before fixed marks log stored tables online pool)) ⌝ }
+    ensures { λ r. ⌜ Halfway «min_del» «max_age» (before fixed marks log stored tables online pool) (after fixed marks log stored tables online pool) (r .reads) (r .writes) (pagesOf (before fixed marks log stored tables online pool)) ⌝ }
 {
     let pages = word::load(fixed, layout::PAGES_AT, 4) as usize;
     let mut reads: u32 = 0;

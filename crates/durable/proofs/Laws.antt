@@ -1,4 +1,4 @@
--- Laws of the turns of the checking loops, of tests joined in a row, of the ranges and the lengths, and what the durable part's soundness gives.
+-- Laws of the turns of the checking loops, and what each check of the durable part found.
 use Prim.Native.Nat.{ℕ, zero, suc, _+_, _*_, _-_, _%_, _^_, _≤_, _<_}
 use native.Mathlib.Omega.{arith}
 use native.Mathlib.Numerals.{add-one}
@@ -10,84 +10,18 @@ use lib.ListN.{length, getD, take, drop, length-drop, drop-of-length-le}
 use lib.Seq.{drop-cons, take-all}
 use lib.Dec.{eqb, leb, ltb, leb·suc-suc}
 use borrow.Author.Tests.{eqb-true, eqb-false, leb-true, eq-eqb, ne-eqb, le-leb, lt-leb, lt-ltb, le-ltb, ltb-true, ltb-false}
-use Rattle.word.proofs.Tests.{and-both, among-four, so, not-so}
-use Rattle.record.specs.Rows.{rowAt, rows}
+use Rattle.word.proofs.Tests.{and-both, and-three, so, not-so}
+use Rattle.record.specs.Rows.{rows}
 use Rattle.record.proofs.Laws.{at-length}
 use Rattle.record.specs.Record.{pageOf, offsetOf, lengthOf, kindOf, valueOf, isLength, wellFormed}
 use Rattle.word.specs.Word.{num}
 use Rattle.rules.specs.declared.Params.{Params}
-use Rattle.rules.specs.Lent.{Lent, paramsOf, sizeOf, pagesOf, framesOf, onlineSizeOf, logSizeOf, lastOf, loggedOf, logOf, dirtyAt}
-use Rattle.rules.specs.Sound.{every, upTo, zeros, between, isPageSize, inRange, exactLengths, s1-parameters, s2-lengths, s3-logged, s16-logged, s18-first, s15-stamps, s17-s19-dirty, s7-log-records, s14-log-zero, soundDurable}
-use Rattle.rules.specs.Shape.{Sized}
-use Rattle.rules.proofs.Clauses.{upTo-same, upTo-both}
+use Rattle.rules.specs.Lent.{Lent, dirtyAt}
+use Rattle.rules.specs.Sound.{every, upTo, zeros, between, inRange, exactLengths, s1-parameters, s2-lengths, s3-logged, s16-logged, s18-first, s15-stamps, s17-s19-dirty, s7-log-records, s14-log-zero, soundDurable}
+use Rattle.rules.proofs.Walks.{upTo-alike, upTo-both}
 use Rattle.durable.specs.Limits.{placesOf, mostValues}
 use Rattle.durable.specs.Marks.{isRecord, soundCounts, numberWithin, soundStamps, soundDirty, dirtyFrom, dirtyWithin, soundDirties, soundMarks}
 use Rattle.layout.specs.Read.{ParamsRead}
-use Rattle.durable.specs.Ranges.{Ranged}
-
--- tests in a row
-and-three : (a b c : Bool) → (a && b && c) ≡ true → (a ≡ true) × (b ≡ true) × (c ≡ true)
-and-three a b c h =
-    let x = and-both (a && b) c h in
-    let y = and-both a b (x .0) in
-    (y .0, y .1, x .1)
-
-and-five : (a b c d e : Bool) → (a && b && c && d && e) ≡ true → (a ≡ true) × (b ≡ true) × (c ≡ true) × (d ≡ true) × (e ≡ true)
-and-five a b c d e h =
-    let x = and-three (a && b && c) d e h in
-    let y = and-three a b c (x .0) in
-    (y .0, y .1, y .2, x .1, x .2)
-
-and-six : (a b c d e f : Bool) → (a && b && c && d && e && f) ≡ true → (a ≡ true) × (b ≡ true) × (c ≡ true) × (d ≡ true) × (e ≡ true) × (f ≡ true)
-and-six a b c d e f h =
-    let x = and-both (a && b && c && d && e) f h in
-    let y = and-five a b c d e (x .0) in
-    (y .0, y .1, y .2, y .3, y .4, x .1)
-
-and-nine : (a b c d e f g h i : Bool) → (a && b && c && d && e && f && g && h && i) ≡ true → (a ≡ true) × (b ≡ true) × (c ≡ true) × (d ≡ true) × (e ≡ true) × (f ≡ true) × (g ≡ true) × (h ≡ true) × (i ≡ true)
-and-nine a b c d e f g h i k =
-    let x = and-five (a && b && c && d && e) f g h i k in
-    let y = and-five a b c d e (x .0) in
-    (y .0, y .1, y .2, y .3, y .4, x .1, x .2, x .3, x .4)
-
--- a loop over n numbers that joins what each test found: none looked at yet, a turn and the end
-pub upTo-none : (b : ℕ → Bool) (n : ℕ) → upTo b (n - 0) 0 ≡ upTo b n 0
-upTo-none b n = let e : n - 0 ≡ n = omega arith in rw e
-
-pub upTo-turn : (b : ℕ → Bool) (n i : ℕ) (ok r x : Bool) → i < n → r ≡ b i → (ok && upTo b (n - i) i) ≡ x → (ok && r && upTo b (n - (i + 1)) (i + 1)) ≡ x
-unfolding upTo
-upTo-turn b n i ok r x p h inv =
-    let e : n - i ≡ suc (n - (i + 1)) = omega arith in
-    rw h (and-assoc ok (b i) (upTo b (n - (i + 1)) (i + 1)) ∙ (rw e at inv))
-
-pub upTo-done : (b : ℕ → Bool) (n i : ℕ) (ok x : Bool) → n ≤ i → (ok && upTo b (n - i) i) ≡ x → ok ≡ x
-unfolding upTo
-upTo-done b n i ok x p inv =
-    let e : n - i ≡ 0 = omega arith in
-    sym (and-true ok) ∙ (rw e at inv)
-
--- a loop over n rows of a table that stops at the first that fails
-module _ (b : List ℕ → Bool) (w : ℕ) (t : List ℕ) (n : ℕ) where
-  pub rows-none : every b (rows w (n - 0) t 0) ≡ every b (rows w n t 0)
-  rows-none = let e : n - 0 ≡ n = omega arith in rw e
-
-  pub rows-turn : (i : ℕ) (x : Bool) {r : Bool} → i < n → r ≡ b (rowAt w t i) → not r ≡ false → every b (rows w (n - i) t i) ≡ x → every b (rows w (n - (i + 1)) t (i + 1)) ≡ x
-  unfolding rows every
-  rows-turn i x p f g inv =
-      let e : n - i ≡ suc (n - (i + 1)) = omega arith in
-      rw (e, so _ _ f g) at inv
-
-  pub rows-stop : (i : ℕ) (x : Bool) {r : Bool} → i < n → r ≡ b (rowAt w t i) → not r ≡ true → every b (rows w (n - i) t i) ≡ x → false ≡ x
-  unfolding rows every
-  rows-stop i x p f g inv =
-      let e : n - i ≡ suc (n - (i + 1)) = omega arith in
-      rw (e, not-so _ _ f g) at inv
-
-  pub rows-done : (i : ℕ) (x : Bool) → n ≤ i → every b (rows w (n - i) t i) ≡ x → true ≡ x
-  unfolding rows every
-  rows-done i x p inv =
-      let e : n - i ≡ 0 = omega arith in
-      rw e at inv
 
 -- a loop that keeps the greatest of bytes that are to be zero: a turn, where the byte is greater and where it is not, and the end
 pub most-new : (a b m : ℕ) → m ≡ b → a < b → eqb m 0 ≡ (eqb a 0 && eqb b 0)
@@ -227,7 +161,7 @@ dirty-parts first closed d = pick (eqb d 0) refl
 pub dirty-found : (marks : List ℕ) (pages first closed : ℕ) (a b : Bool) → a ≡ upTo (numberWithin marks (12 + 4 * pages) closed) pages 0 → b ≡ upTo (dirtyFrom marks pages first) pages 0 → (a && b) ≡ soundDirties marks pages first closed
 dirty-found marks pages first closed a b e f =
     rw (e, f) (sym (
-    upTo-same (dirtyWithin marks pages first closed) (λ (p : ℕ). numberWithin marks (12 + 4 * pages) closed p && dirtyFrom marks pages first p) (λ p. dirty-parts first closed (num 4 marks (dirtyAt pages p))) pages 0
+    upTo-alike (dirtyWithin marks pages first closed) (λ (p : ℕ). numberWithin marks (12 + 4 * pages) closed p && dirtyFrom marks pages first p) pages 0 (λ p _ _. dirty-parts first closed (num 4 marks (dirtyAt pages p)))
     ∙ upTo-both (numberWithin marks (12 + 4 * pages) closed) (dirtyFrom marks pages first) pages 0
     ))
 
@@ -264,59 +198,9 @@ module _ (marks log : List ℕ) (size pages logSize last closed n : ℕ) (el : l
       unfolding soundMarks
       marks-log j k = rw (← el, ← ek, ← en, so _ _ counted h, so _ _ stamped i, so _ _ dirtied j) k
 
--- the ranges as bounds
-between-bounds : (low n high : ℕ) → between low n high ≡ true → (low ≤ n) × (n ≤ high)
-between-bounds low n high h =
-    let e = and-both (leb low n) (leb n high) h in
-    (leb-true low n (e .0), leb-true n high (e .1))
-
-pub ranged : (g : Params) → inRange g ≡ true → Ranged g
-unfolding inRange isPageSize
-ranged g h =
-    let e = and-five (isPageSize (g .size)) (between 1 (g .pages) 1024) (between 1 (g .frames) 64) (between 1 (g .online) 512) (between 1 (g .log) 2048) h in
-    let s = among-four (λ (n : ℕ). (512 ≤ n) × (n ≤ 4096)) (g .size) 512 1024 2048 4096 (e .0) (omega arith, omega arith) (omega arith, omega arith) (omega arith, omega arith) (omega arith, omega arith) in
-    let p = between-bounds 1 (g .pages) 1024 (e .1) in
-    let f = between-bounds 1 (g .frames) 64 (e .2) in
-    let o = between-bounds 1 (g .online) 512 (e .3) in
-    let l = between-bounds 1 (g .log) 2048 (e .4) in
-    record {
-      size-least = s .0;
-      size-most = s .1;
-      pages-least = p .0;
-      pages-most = p .1;
-      frames-least = f .0;
-      frames-most = f .1;
-      online-least = o .0;
-      online-most = o .1;
-      log-least = l .0;
-      log-most = l .1;
-    }
-
 -- an area of pages or frames stays small
 pub area-small : (size n : ℕ) → size ≤ 4096 → n ≤ 1024 → size * n ≤ 4194304
 area-small size n h k = mul-le-mul {n₁ = size} {m₁ = n} {n₂ = 4096} {m₂ = 1024} h k
-
--- the six lengths that `exact_lengths` found
-pub lengths-each : (s : Lent) (g : Params) → exactLengths s g ≡ true → (length (s .durable .marks) ≡ 12 + 8 * g .pages) × (length (s .durable .log) ≡ 14 * g .log) × (length (s .durable .stored) ≡ g .size * g .pages) × (length (s .lost .tables) ≡ 35 + g .frames + g .pages) × (length (s .lost .online) ≡ 19 * g .online) × (length (s .lost .pool) ≡ g .size * g .frames)
-unfolding exactLengths
-lengths-each s g h =
-    let e =
-    and-six (eqb (length (s .durable .marks)) (12 + 8 * g .pages)) (eqb (length (s .durable .log)) (14 * g .log)) (eqb (length (s .durable .stored)) (g .size * g .pages))
-    (eqb (length (s .lost .tables)) (35 + g .frames + g .pages)) (eqb (length (s .lost .online)) (19 * g .online)) (eqb (length (s .lost .pool)) (g .size * g .frames)) h
-    in (
-      eqb-true (length (s .durable .marks)) (12 + 8 * g .pages) (e .0),
-      eqb-true (length (s .durable .log)) (14 * g .log) (e .1),
-      eqb-true (length (s .durable .stored)) (g .size * g .pages) (e .2),
-      eqb-true (length (s .lost .tables)) (35 + g .frames + g .pages) (e .3),
-      eqb-true (length (s .lost .online)) (19 * g .online) (e .4),
-      eqb-true (length (s .lost .pool)) (g .size * g .frames) (e .5),
-    )
-
--- the two that `sound_marks` asks for
-pub lengths-marks : (s : Lent) (g : Params) {r : Bool} → r ≡ exactLengths s g → not r ≡ false → (length (s .durable .marks) ≡ 12 + 8 * g .pages) × (length (s .durable .log) ≡ 14 * g .log)
-lengths-marks s g f h =
-    let e = lengths-each s g (so _ _ f h) in
-    (e .0, e .1)
 
 -- `sound_durable`: what each check found
 pub durable-fixed : (s : Lent) → (length (s .durable .fixed) ≡ 20 → ⊥) → false ≡ soundDurable s
@@ -345,43 +229,3 @@ module _ (s : Lent) (g : Params) (fixed : length (s .durable .fixed) ≡ 20) (re
       pub durable-marks : {x : Bool} → not t ≡ false → x ≡ soundMarks (s .durable .marks) (s .durable .log) (g .size) (g .pages) (g .log) → x ≡ soundDurable s
       unfolding soundDurable soundMarks s3-logged s16-logged s18-first s15-stamps s17-s19-dirty s7-log-records s14-log-zero
       durable-marks i e = rw (first-clause true (so _ _ within h), second-clause true (so _ _ exact i), ← read .size, ← read .pages, ← read .log) e
-
--- what a sound durable part gives
-durable-clauses : (s : Lent) → soundDurable s ≡ true → (s1-parameters s ≡ true) × (s2-lengths s ≡ true) × (s3-logged s ≡ true) × (s16-logged s ≡ true) × (s18-first s ≡ true) × (s15-stamps s ≡ true) × (s17-s19-dirty s ≡ true) × (s7-log-records s ≡ true) × (s14-log-zero s ≡ true)
-unfolding soundDurable
-durable-clauses s h = and-nine (s1-parameters s) (s2-lengths s) (s3-logged s) (s16-logged s) (s18-first s) (s15-stamps s) (s17-s19-dirty s) (s7-log-records s) (s14-log-zero s) h
-
-pub durable-sized : (s : Lent) → soundDurable s ≡ true → Sized s
-unfolding s1-parameters s2-lengths
-durable-sized s h =
-    let e = durable-clauses s h in
-    let p = and-both (eqb (length (s .durable .fixed)) 20) (inRange (paramsOf s)) (e .0) in
-    let r = ranged (paramsOf s) (p .1) in
-    let l = lengths-each s (paramsOf s) (e .1) in
-    record {
-      fixed = eqb-true (length (s .durable .fixed)) 20 (p .0);
-      size-least = r .size-least;
-      size = r .size-most;
-      pages-least = r .pages-least;
-      pages = r .pages-most;
-      frames-least = r .frames-least;
-      frames = r .frames-most;
-      online-size = r .online-most;
-      log-size = r .log-most;
-      marks = l .0;
-      log = l .1;
-      stored = l .2;
-      tables = l .3;
-      online = l .4;
-      pool = l .5;
-    }
-
-pub durable-logged : (s : Lent) → soundDurable s ≡ true → (loggedOf s ≤ logSizeOf s) × (loggedOf s ≤ lastOf s)
-unfolding s3-logged s16-logged
-durable-logged s h =
-    let e = durable-clauses s h in
-    (leb-true (loggedOf s) (logSizeOf s) (e .2), leb-true (loggedOf s) (lastOf s) (e .3))
-
-pub durable-log-records : (s : Lent) → soundDurable s ≡ true → every (wellFormed (sizeOf s) (pagesOf s)) (logOf s) ≡ true
-unfolding s7-log-records
-durable-log-records s h = durable-clauses s h .7

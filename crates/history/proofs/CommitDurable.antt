@@ -13,13 +13,12 @@ use Rattle.word.specs.Word.{num}
 use Rattle.word.proofs.Tests.{and-both}
 use Rattle.record.specs.Rows.{keep}
 use Rattle.record.specs.Record.{pageOf, numberOf, bodyOf, applied, onPage, ownedBy, wellFormed}
-use Rattle.table.proofs.Laws.{Wide, wide-keep, wide-bodies}
+use Rattle.record.proofs.Rows.{Wide, wide-keep, wide-bodies}
 use Rattle.rules.specs.Lent.{Lent, onlineSizeOf, logSizeOf, lastOf, closedOf, loggedOf, firstOf, stampAt, dirtyOf, logOf, onlineOf, pageIn}
 use Rattle.rules.specs.Steps.{owned, committing}
 use Rattle.rules.specs.Sound.{every}
-use Rattle.rules.proofs.Every.{or-right}
-use Rattle.onlinecheck.proofs.Rows.{every-imp}
-use Rattle.onlinecheck.proofs.Laws.{formed-page}
+use Rattle.rules.proofs.Every.{or-right, every-imp}
+use Rattle.rules.proofs.Clauses.{formed-page}
 use Rattle.redo.proofs.View.{keep-append}
 use Rattle.redo.proofs.Views.{keep-same, keep-all, keep-none}
 use Rattle.redo.proofs.Loose.{numberedFrom, ≅-length}
@@ -27,9 +26,9 @@ use Rattle.redo.proofs.Numbered.{numberedFrom-append, numberedFrom-length, numb
 use Rattle.redo.proofs.Reader.{every-both}
 use Rattle.readback.proofs.Marks.{marks-commit, last-commit, closed-commit, logged-commit, stamp-commit, dirty-commit}
 use Rattle.readback.proofs.Log.{log-commit, log-zero-commit, log-length-commit}
+use Rattle.keeps.proofs.Tests.{every-append}
 use Rattle.history.specs.Past.{Past}
 use Rattle.history.proofs.Right.{Ground, Right, DurableRight, rowsOf, openOf, aboveStamp}
-use Rattle.history.proofs.Tested.{every-append}
 use Rattle.history.proofs.Facts.{dirt-same, ranges, marks-long}
 
 -- of records numbered on from L: each number is above L

@@ -13,17 +13,16 @@ use Rattle.word.proofs.Tests.{and-both}
 use Rattle.record.specs.Record.{ownerOf, numberOf, committed, wellFormed}
 use Rattle.rules.specs.Lent.{Lent, paramsOf, Durable, sizeOf, pagesOf, framesOf, onlineSizeOf, logSizeOf, lastOf, loggedOf, onlineOf}
 use Rattle.rules.specs.Sound.{every, pairs, between}
-use Rattle.rules.proofs.Every.{or-right, every-kept}
+use Rattle.rules.proofs.Every.{or-right, every-kept, every-imp}
 use Rattle.rules.proofs.Extremes.{numberAtMost}
-use Rattle.onlinecheck.specs.Online.{pageBelow}
-use Rattle.onlinecheck.proofs.Rows.{every-imp}
-use Rattle.onlinecheck.proofs.Laws.{formed-page}
-use Rattle.durable.specs.Ranges.{Ranged}
-use Rattle.durable.proofs.Laws.{ranged}
+use Rattle.rules.specs.Shape.{pageBelow, Ranged}
+use Rattle.rules.proofs.Clauses.{formed-page}
+use Rattle.rules.proofs.Ranges.{ranged}
 use Rattle.redo.proofs.Views.{rising}
 use Rattle.redo.proofs.Numbered.{numberedFrom-committed, numberedFrom-formed, numberedFrom-from, numberedFrom-rising}
+use Rattle.readback.proofs.Seen.{only}
 use Rattle.history.specs.Past.{Past}
-use Rattle.history.proofs.Right.{Ground, rowsOf, uncommitted, openOf, aboveStamp, only, openRow, PastRight, DurableRight, Right}
+use Rattle.history.proofs.Right.{Ground, rowsOf, uncommitted, openOf, aboveStamp, openRow, PastRight, DurableRight, Right}
 use Rattle.history.proofs.Tested.{online-all}
 
 -- what is said of an uncommitted record

@@ -15,7 +15,7 @@ use Rattle.rules.specs.declared.Params.{Params}
 use Rattle.rules.specs.Lent.{Lent, framesOf, lastOf, closedOf, loggedOf, inFrame, isDirty}
 use Rattle.rules.specs.Sound.{every, inRange, exactLengths}
 use Rattle.rules.specs.Steps.{formatted}
-use Rattle.durable.proofs.Laws.{lengths-each}
+use Rattle.rules.proofs.Ranges.{lengths-each}
 use Rattle.redo.proofs.Loose.{still, numberedFrom}
 use Rattle.seats.proofs.Places.{seated-none}
 use Rattle.readback.proofs.Marks.{fixed-format, size-format, pages-format, frames-format, online-size-format, log-size-format, range-format, marks-format, last-format, closed-format, logged-format, stamp-format, dirty-format}

@@ -11,13 +11,12 @@ use borrow.Author.Tests.{ltb-true, ltb-false, lt-ltb, le-leb, lt-leb}
 use Rattle.word.proofs.Tests.{and-both}
 use Rattle.record.specs.Rows.{consIf, keep}
 use Rattle.record.specs.Record.{pageOf, numberOf, entered, committed}
-use Rattle.table.proofs.Laws.{Wide, none, one, wide-drop, wide-keep}
+use Rattle.record.proofs.Rows.{Wide, none, one, wide-drop, wide-keep}
 use Rattle.rules.specs.Lent.{Lent, Lost, pagesOf, framesOf, onlineSizeOf, closedOf, loggedOf, stampOf, dirtyOf, firstOf}
 use Rattle.rules.specs.Steps.{enters, entering, enteringAll, restarted}
 use Rattle.rules.specs.Sound.{every}
-use Rattle.rules.proofs.Every.{keep-within, every-keep}
+use Rattle.rules.proofs.Every.{keep-within, every-keep, every-imp}
 use Rattle.rules.proofs.Needed.{enters-above}
-use Rattle.onlinecheck.proofs.Rows.{every-imp}
 use Rattle.redo.proofs.Loose.{numberedFrom, ≅-equal}
 use Rattle.redo.proofs.Numbered.{entered-page, entered-number, numberedFrom-wide}
 use Rattle.redo.proofs.Views.{keep-same-where}

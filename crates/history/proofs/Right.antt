@@ -10,12 +10,12 @@ use lib.Dec.{eqb, leb, ltb}
 use Rattle.word.specs.Word.{num}
 use Rattle.record.specs.Rows.{keep, any}
 use Rattle.record.specs.Record.{pageOf, ownerOf, numberOf, committed, applied, onPage, wellFormed}
-use Rattle.table.proofs.Laws.{Wide}
+use Rattle.record.proofs.Rows.{Wide}
 use Rattle.rules.specs.Lent.{Lent, paramsOf, Durable, sizeOf, pagesOf, framesOf, onlineSizeOf, logSizeOf, lastOf, closedOf, loggedOf, firstOf, stampAt, stampOf, dirtyOf, logOf, orderOf, entriesOf, onlineOf, inFrame, frameOf, isDirty, pageIn}
 use Rattle.rules.specs.Sound.{every, pairs, zeros, between, inRange, apart}
 use Rattle.redo.proofs.Loose.{_≅_, numberedFrom}
 use Rattle.seats.proofs.Seated.{Seated}
-use Rattle.readback.proofs.Seen.{Areas, Whole, livesOf}
+use Rattle.readback.proofs.Seen.{only, Areas, Whole, livesOf}
 use Rattle.history.specs.Past.{Past}
 
 -- what format fixed: page size, pages, starting pages, and the number before the first commit's
@@ -39,10 +39,6 @@ openOf h = keep uncommitted (h .made)
 -- numbered above its page's stamp, so not in the stored page
 abbrev pub aboveStamp : List ℕ → List ℕ → Bool
 aboveStamp marks r = ltb (num 4 marks (stampAt (pageOf r))) (numberOf r)
-
--- the durable part alone, as lent bytes
-abbrev pub only : Durable → Lent
-only d = record { durable = d; lost = record { tables = []; online = []; pool = [] } }
 
 -- an uncommitted update: whose it is, and that it is well formed
 unfoldable pub openRow : Ground → (ℕ → Bool) → List ℕ → Bool

@@ -2,14 +2,15 @@
 -- Each keeps house by itself: what it evicts, compacts and closes, and when, is its own.
 use Prim.Native.Nat.{ℕ, _+_, _≤_}
 use mathlib.Core.Path.{_≡_}
-use mathlib.Core.Bool.{Bool, true, false}
+use mathlib.Core.Bool.{Bool, true, false, _||_}
+use lib.Dec.{eqb}
 use Rattle.rules.specs.declared.Params.{Params}
 use Rattle.rules.specs.declared.Counts.{Counts}
 use Rattle.rules.specs.declared.Refusal.{Refusal}
-use Rattle.rules.specs.declared.Refusal.the-variants.{NotSound, Argument, ShortBuffer, NotLive, Live, Held, OnlineFull, LogFull, NumbersEnd, NoFrame}
 use Rattle.rules.specs.declared.Answer.{Answer}
 use Rattle.rules.specs.declared.Answer.the-variants.{Done, NotDue, Refused}
 use Rattle.rules.specs.declared.Verdict.the-variants.{Go}
+use Rattle.rules.specs.Answers.{codeOf}
 use Rattle.rules.specs.Lent.{Lent, Lost, pagesOf}
 use Rattle.rules.specs.Calls.{restartCall, formatCall, judgeCheckpoint}
 use Rattle.history.specs.Past.{Past, fresh, falls}
@@ -43,16 +44,7 @@ upkeep Restart = false
 
 -- refusals 7 and 8
 unfoldable pub isFull : Refusal → Bool
-isFull NotSound = false
-isFull (Argument b) = false
-isFull ShortBuffer = false
-isFull NotLive = false
-isFull Live = false
-isFull Held = false
-isFull OnlineFull = true
-isFull LogFull = true
-isFull NumbersEnd = false
-isFull NoFrame = false
+isFull r = eqb (codeOf r) 7 || eqb (codeOf r) 8
 
 unfoldable pub full : Answer → Bool
 full (Done counts) = false
@@ -65,10 +57,11 @@ pub data Agree : Answer → Answer → Type 0 where
   not-due : Agree NotDue NotDue
   refused : (r : Refusal) → Agree (Refused r) (Refused r)
 
--- what one store may do alone: upkeep with any arguments, or a format that is refused
+-- what one store may do alone: upkeep with any arguments, a format that is refused, and, while both await a restart, lose power once more
 pub data Aside (h : Past) (s : Lent) : Lent → Type 0 where
   keeping : h .down ≡ false → (c : Call) → upkeep c ≡ true → Aside h s (outcome s c .lent)
   not-formatted : (g : Params) (last : ℕ) (r : Refusal) → formatCall s g last .answer ≡ Refused r → Aside h s (formatCall s g last .lent)
+  lost-again : h .down ≡ true → (l : Lost) → Fits s l → Aside h s (afterLoss s l)
 
 -- a power loss of one store: between calls, or inside a checkpoint of its own
 pub data Loses (h : Past) (s : Lent) : Lent → Type 0 where

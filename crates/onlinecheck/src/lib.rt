@@ -9,9 +9,10 @@ ghost use Rattle.record.specs.Rows.{rows};
 ghost use Rattle.record.specs.Record.{onlineWidth, logWidth, wellFormed};
 ghost use Rattle.rules.specs.Sound.{every, pairs, upTo, zeros, apart};
 ghost use Rattle.rules.specs.Lent.{orderAt, marksLength};
-ghost use Rattle.onlinecheck.specs.Online.{owned, inLog, aboveStamp, otherNumber, entryAgrees, pageBelow, onlineTest};
+ghost use Rattle.rules.specs.Shape.{pageBelow};
+ghost use Rattle.onlinecheck.specs.Online.{owningIn, inLog, pastStamp, otherNumber, entryAgrees, onlineTest};
 ghost use Rattle.onlinecheck.specs.Marks.{slotted};
-ghost use Rattle.onlinecheck.specs.Bytes.{placed};
+ghost use Rattle.onlinecheck.specs.Bytes.{bounded};
 
 mod owned; // S8
 mod logged; // S10
@@ -35,7 +36,7 @@ fn sound_rows(
     last: u64,
 ) -> bool
     requires { ⌜ (m * onlineWidth ≤ length (now online)) × (n * logWidth ≤ length (now log)) × (n ≤ last) × (last < 4294967296) × (length (now marks) ≡ marksLength pages) × (orderAt ≤ length (now tables)) × (8 ≤ size) ⌝ }
-    ensures { λ r. ⌜ r ≡ (every (wellFormed size pages) (rows onlineWidth m (now (online .entry)) 0) && every (owned (now (tables .entry)) last) (rows onlineWidth m (now (online .entry)) 0) && zeros (drop (m * onlineWidth) (now (online .entry))) && every (inLog (now (log .entry)) (last - n + 1)) (rows onlineWidth m (now (online .entry)) 0) && every (aboveStamp (now (marks .entry))) (rows onlineWidth m (now (online .entry)) 0)) ⌝ }
+    ensures { λ r. ⌜ r ≡ (every (wellFormed size pages) (rows onlineWidth m (now (online .entry)) 0) && every (owningIn (now (tables .entry)) last) (rows onlineWidth m (now (online .entry)) 0) && zeros (drop (m * onlineWidth) (now (online .entry))) && every (inLog (now (log .entry)) (last - n + 1)) (rows onlineWidth m (now (online .entry)) 0) && every (pastStamp (now (marks .entry))) (rows onlineWidth m (now (online .entry)) 0)) ⌝ }
 {
     if !each::all_sound(online, m, log, n, marks, tables, size, pages, last) {
         return false;
@@ -54,7 +55,7 @@ fn sound_ties(
     pages: usize,
     frames: usize,
 ) -> bool
-    requires { ⌜ (m * onlineWidth ≤ length (now online)) × (length (now tables) ≡ orderAt + frames + pages) × (pages ≤ 1024) × (every (pageBelow pages) (rows onlineWidth m (now online) 0) ≡ true) × (every (slotted first) (rows onlineWidth m (now online) 0) ≡ true) × (m ≤ 512) × (every placed (rows onlineWidth m (now online) 0) ≡ true) ⌝ }
+    requires { ⌜ (m * onlineWidth ≤ length (now online)) × (length (now tables) ≡ orderAt + frames + pages) × (pages ≤ 1024) × (every (pageBelow pages) (rows onlineWidth m (now online) 0) ≡ true) × (every (slotted first) (rows onlineWidth m (now online) 0) ≡ true) × (m ≤ 512) × (every bounded (rows onlineWidth m (now online) 0) ≡ true) ⌝ }
     ensures { λ r. ⌜ r ≡ (pairs otherNumber (rows onlineWidth m (now (online .entry)) 0) && upTo (entryAgrees (part (orderAt + frames) pages (now (tables .entry))) (rows onlineWidth m (now (online .entry)) 0)) pages 0 && pairs apart (rows onlineWidth m (now (online .entry)) 0)) ⌝ }
 {
     if !once::all_once(online, m, first) {

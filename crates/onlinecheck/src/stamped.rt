@@ -3,13 +3,13 @@ ghost use mathlib.Core.Path.{_≡_};
 ghost use Prim.Native.Nat.{_+_, _*_, _≤_, _<_};
 ghost use lib.ListN.{length};
 ghost use Rattle.record.specs.Rows.{rowAt};
-ghost use Rattle.record.specs.Record.{onlineWidth, pageOf};
 ghost use Rattle.rules.specs.Lent.{marksLength};
-ghost use Rattle.onlinecheck.specs.Online.{aboveStamp};
+ghost use Rattle.record.specs.Record.{onlineWidth, pageOf};
+ghost use Rattle.onlinecheck.specs.Online.{pastStamp};
 
 pub fn is_above(t: &[u8], i: usize, marks: &[u8], pages: usize) -> bool
     requires { ⌜ (i * onlineWidth + onlineWidth ≤ length (now t)) × (length (now marks) ≡ marksLength pages) × (pageOf (rowAt onlineWidth (now t) i) < pages) ⌝ }
-    ensures { λ r. ⌜ r ≡ aboveStamp (now (marks .entry)) (rowAt onlineWidth (now (t .entry)) i) ⌝ }
+    ensures { λ r. ⌜ r ≡ pastStamp (now (marks .entry)) (rowAt onlineWidth (now (t .entry)) i) ⌝ }
 {
     let x = record::owner_of(t, i);
     if x != 0 {

@@ -8,7 +8,7 @@ use mathlib.Core.List.{List, [], _++_, map}
 use lib.ListN.{length, drop, replicate, length-append, length-drop, length-map, length-replicate}
 use Rattle.record.specs.Rows.{rows, table}
 use Rattle.record.specs.Record.{bodyOf, ownedBy}
-use Rattle.table.proofs.Laws.{Wide, wide-all, wide-keep, wide-drop, wide-append, wide-bodies, length-rows, length-table, rows-table, zeros-table}
+use Rattle.record.proofs.Rows.{Wide, wide-all, wide-keep, wide-drop, wide-append, wide-bodies, length-rows, length-table, rows-table, zeros-table}
 use Rattle.rules.specs.declared.Params.{Params}
 use Rattle.rules.specs.Lent.{Lent, pagesOf, logSizeOf, lastOf, loggedOf, logOf, onlineOf}
 use Rattle.rules.specs.Sound.{every, zeros, inRange}

@@ -13,10 +13,10 @@ use Rattle.record.specs.Record.{pageOf, apply, applied, onPage, ownedBy, gone, 
 use Rattle.record.proofs.Parts.{length-part, length-with, one-fits}
 use Rattle.record.proofs.Laws.{either-length}
 use Rattle.rules.proofs.Every.{every-keep}
-use Rattle.apply.proofs.Laws.{length-apply, length-applied}
+use Rattle.record.proofs.Changes.{length-apply, length-applied}
 use Rattle.order.specs.Order.{without, touched}
 use Rattle.order.proofs.Laws.{length-without}
-use Rattle.table.proofs.Laws.{Wide, none, one, keep-length, wide-keep, wide-append, wide-number, length-number, length-table, rows-table, zeros-table}
+use Rattle.record.proofs.Rows.{Wide, none, one, keep-length, wide-keep, wide-append, wide-number, length-number, length-table, rows-table, zeros-table}
 use Rattle.rules.specs.declared.Params.{Params}
 use Rattle.rules.specs.Lent.{Lent, sizeOf, pagesOf, framesOf, onlineSizeOf, lastOf, countOf, liveOf, orderOf, entryAt, entryOf, entriesOf, onlineOf, inFrame, frameOf, isDirty, dirtyIn, pageIn, withPage}
 use Rattle.rules.specs.Sound.{zeros}

@@ -23,9 +23,9 @@ use Rattle.rules.specs.Lent.{paramsOf, Lent, sizeOf, pagesOf, framesOf, onlineS
 use Rattle.rules.specs.Sound.{every, inRange}
 use Rattle.rules.specs.Steps.{owned, committing, foldable, lowered, droppedBy, closed, stamped, formatted}
 use Rattle.rules.proofs.Extremes.{numberAtMost, lesser-most}
-use Rattle.closing.proofs.Laws.{length-lowered}
-use Rattle.durable.specs.Ranges.{Ranged}
-use Rattle.durable.proofs.Laws.{ranged}
+use Rattle.rules.proofs.Kept.{length-lowered}
+use Rattle.rules.specs.Shape.{Ranged}
+use Rattle.rules.proofs.Ranges.{ranged}
 
 -- a number of 4 bytes where it was put
 here : (l : List ℕ) (at v : ℕ) → at + 4 ≤ length l → v ≤ 4294967295 → num 4 (put 4 l at v) at ≡ v

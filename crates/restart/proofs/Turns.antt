@@ -14,7 +14,7 @@ use Rattle.record.proofs.Parts.{with-take, with-drop, with-length}
 use Rattle.record.proofs.Laws.{drop-zeros}
 use Rattle.rules.specs.Lent.{Lent, entryAt, framesOf, onlineSizeOf}
 use Rattle.rules.specs.Steps.{lostNow, enteringAll, evictedAll, restarted}
-use Rattle.table.proofs.Laws.{joined-cons, row-length, length-entered}
+use Rattle.record.proofs.Rows.{joined-cons, row-width, length-entered}
 use Rattle.restart.specs.Enter.{entersBy, enteringBy, firstBy, allBy, Readable, Restarts}
 use Rattle.restart.proofs.Laws.{rest, rest-start, rest-yes, rest-no, rest-end, all-read, all-by, readable}
 
@@ -88,7 +88,7 @@ module _ (marks : List ℕ) (pages first n : ℕ) (log : List ℕ) where
         let h : m * 19 + 19 ≤ length o = enter-room fit e in
         let b : (m + 1) * 19 ≡ m * 19 + 19 = omega arith in
         let q : rest marks pages first n log i ≡ y ∷ rs = rest-yes marks pages first n log i true lt (sym e) refl in
-        let ly : length y ≡ 19 = length-entered r (first + i) (row-length 14 log i (omega arith)) in
+        let ly : length y ≡ 19 = length-entered r (first + i) (row-width 14 log i (omega arith)) in
         let w : List ℕ = withPart (m * 19) 19 o y in
         record {
           within = omega arith;

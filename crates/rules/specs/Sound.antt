@@ -7,7 +7,7 @@ use lib.Dec.{eqb, leb, ltb}
 use Rattle.word.specs.Word.{num}
 use Rattle.record.specs.Part.{part}
 use Rattle.record.specs.Rows.{rowAt, keep, any}
-use Rattle.record.specs.Record.{logWidth, onlineWidth, pageOf, ownerOf, numberOf, committed, bodyOf, onPage, wellFormed, shareByte}
+use Rattle.record.specs.Record.{onlineWidth, logWidth, pageOf, ownerOf, numberOf, committed, bodyOf, onPage, wellFormed, free}
 use Rattle.rules.specs.declared.Params.{Params}
 use Rattle.rules.specs.Lent.{Lent, fixedLength, marksLength, tablesLength, orderAt, paramsOf, sizeOf, pagesOf, framesOf, onlineSizeOf, logSizeOf, lastOf, closedOf, loggedOf, stampOf, dirtyOf, firstOf, logOf, countOf, usedOf, liveOf, orderOf, entriesOf, onlineOf, isDirty}
 
@@ -124,7 +124,7 @@ s12-dirty s = upTo (λ (p : ℕ). agree (isDirty (getD (entriesOf s) p 0)) (any 
 
 -- S13 "uncommitted records of different owners share no byte"
 unfoldable pub apart : List ℕ → List ℕ → Bool
-apart a b = committed a || committed b || eqb (ownerOf a) (ownerOf b) || not (shareByte a b)
+apart a b = committed a || committed b || eqb (ownerOf a) (ownerOf b) || free a b
 
 unfoldable pub s13-apart : Lent → Bool
 s13-apart s = pairs apart (onlineOf s)

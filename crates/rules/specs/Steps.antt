@@ -7,7 +7,7 @@ use lib.Dec.{eqb, leb}
 use Rattle.word.specs.Word.{num, put}
 use Rattle.record.specs.Part.{part, withPart}
 use Rattle.record.specs.Rows.{rows, table, consIf, keep, any}
-use Rattle.record.specs.Record.{logWidth, onlineWidth, pageOf, numberOf, committed, bodyOf, apply, applied, rowOf, entered, onPage, committedOn, ownedBy, numberRows, lesser, smallest, greatest}
+use Rattle.record.specs.Record.{onlineWidth, logWidth, pageOf, numberOf, committed, bodyOf, apply, applied, rowOf, entered, onPage, committedOn, ownedBy, numberRows, lesser, smallest, greatest}
 use Rattle.order.specs.Order.{without, touched, frameFor}
 use Rattle.rules.specs.declared.Params.{Params}
 use Rattle.rules.specs.Lent.{Lent, lastAt, closedAt, loggedAt, fixedOf, lentOf, sizeOf, pagesOf, framesOf, onlineSizeOf, logSizeOf, lastOf, closedOf, loggedOf, stampAt, dirtyAt, stampOf, dirtyOf, firstOf, logOf, countOf, liveAt, orderOf, entryAt, entryOf, entriesOf, onlineOf, inFrame, frameOf, isDirty, cleanIn, dirtyIn, pageIn, withPage, withOrder, withEntries, withCount}
@@ -25,6 +25,10 @@ pub record Left : Type 0 where
 
 abbrev pub left : Lent → ℕ → ℕ → ℕ → Left
 left s r w l = record { lent = s; reads = r; writes = w; logs = l }
+
+-- one step after another: the bytes of the later, and "the sum of its steps" as counts
+abbrev pub andThen : Left → Left → Left
+andThen d e = left (e .lent) (d .reads + e .reads) (d .writes + e .writes) (d .logs + e .logs)
 
 -- "Begin makes the number live."
 unfoldable pub begun : Lent → ℕ → Left
@@ -192,13 +196,13 @@ afterPages minDel maxAge zero s = left s 0 0 0
 afterPages minDel maxAge (suc j) s = onward (afterPages minDel maxAge j s)
   where
     onward : Left → Left
-    onward d = left (compactStep minDel maxAge (d .lent) j .lent) (d .reads + compactStep minDel maxAge (d .lent) j .reads) (d .writes + compactStep minDel maxAge (d .lent) j .writes) 0
+    onward d = andThen d (compactStep minDel maxAge (d .lent) j)
 
 unfoldable pub checkpointed : ℕ → ℕ → Lent → Left
 checkpointed minDel maxAge s = then-close (afterPages minDel maxAge (pagesOf s) s)
   where
     then-close : Left → Left
-    then-close d = left (closed (d .lent) .lent) (d .reads) (d .writes) 1
+    then-close d = andThen d (closed (d .lent))
 
 -- Restart. "one numbered at most K whose page's dirty number is 0 is passed over; one numbered at most the page's stamp is passed over; any other enters"
 abbrev pub enters : Lent → ℕ → List ℕ → Bool

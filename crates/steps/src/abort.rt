@@ -13,7 +13,7 @@ ghost use Rattle.rules.specs.Lent.{orderAt, usedIn, liveAt, entryAt, withOrder,
 ghost use Rattle.rules.specs.Areas.{areas, before, after};
 ghost use Rattle.rules.specs.Shape.{Shaped};
 ghost use Rattle.rules.specs.Steps.{freedOf, framesFreed, judgedAnew, aborted};
-ghost use Rattle.onlinecheck.specs.Marks.{markPages};
+ghost use Rattle.table.specs.Marks.{markPages};
 use number::FrameNo;
 use number::PageNo;
 use order::Order;

@@ -12,7 +12,7 @@ use borrow.Author.Tests.{ne-eqb}
 use Rattle.record.specs.Part.{part}
 use Rattle.record.specs.Rows.{keep, consIf}
 use Rattle.record.specs.Record.{committed, applied, onPage, committedOn, ownedBy, rowOf}
-use Rattle.table.proofs.Laws.{length-rowOf}
+use Rattle.record.proofs.Rows.{length-rowOf}
 use Rattle.rules.specs.declared.Answer.{Answer}
 use Rattle.rules.specs.declared.Answer.the-variants.{Done, NotDue, Refused}
 use Rattle.rules.specs.declared.Counts.{Counts}
@@ -21,10 +21,10 @@ use Rattle.rules.specs.declared.Verdict.the-variants.{Go, Refuse}
 use Rattle.rules.specs.Lent.{Lent, pageIn}
 use Rattle.rules.specs.Steps.{begun, updated, committing, aborted, restarted}
 use Rattle.rules.specs.Calls.{Outcome, settled, doneWith, judgeBegin, beginCall, readCall, judgeUpdate, updateCall, judgeCommit, commitCall, judgeAbort, abortCall, judgeRestart, restartCall}
-use Rattle.ventarico.proofs.Went.{begin-went, abort-went, commit-went, update-went}
+use Rattle.rules.proofs.Went.{begin-went, abort-went, commit-went, update-went}
 use Rattle.redo.proofs.View.{keep-append}
 use Rattle.redo.proofs.Views.{keep-all}
-use Rattle.redo.proofs.Numbered.{row-owner}
+use Rattle.record.proofs.Fields.{row-owner}
 use Rattle.history.specs.Past.{Past, begins, updates, aborts, startPage, shown}
 use Rattle.history.specs.Committed.{committedOf, numberedTo}
 use Rattle.history.specs.Run.{Call, Begin, Commit, Abort, Evict, Read, Update, Compact, Checkpoint, Close, Restart, outcome, taken, told, Run, no-format, call, restart, loss, loss-inside}

@@ -19,7 +19,7 @@ use Rattle.rules.specs.Lent.{Lent, Lost, pagesOf}
 use Rattle.rules.specs.Sound.{between}
 use Rattle.rules.specs.Steps.{begun, readStep, readBytes, updated, owned, committing, aborted, evicted, due, compacted, closed, checkpointed, restarted, formatted}
 use Rattle.rules.specs.Calls.{Outcome, settled, doneWith, dueOr, judgeBegin, beginCall, judgeRead, readCall, judgeUpdate, updateCall, judgeCommit, commitCall, judgeAbort, abortCall, judgeEvict, evictCall, judgeCompact, compactCall, judgeClose, closeCall, judgeCheckpoint, checkpointCall, judgeRestart, restartCall, judgeFormat, formatCall}
-use Rattle.ventarico.proofs.Went.{begin-went, abort-went, evict-went, commit-went, read-went, update-went, update-whose, compact-went, format-went}
+use Rattle.rules.proofs.Went.{begin-went, abort-went, evict-went, commit-went, read-went, update-went, update-whose, compact-went, format-went}
 use Rattle.history.specs.Past.{Past, fresh, begins, updates, commits, aborts, falls, rises}
 use Rattle.history.specs.Run.{Call, Begin, Commit, Abort, Evict, Read, Update, Compact, Checkpoint, Close, Restart, outcome, taken, told, Fits, afterLoss, afterSteps, Run, format, no-format, call, restart, loss, loss-inside}
 use Rattle.history.proofs.Right.{Ground, Right, Down}

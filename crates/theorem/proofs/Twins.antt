@@ -6,7 +6,7 @@ use mathlib.Core.Logic.{inl, inr}
 use mathlib.Core.Bool.{true, false, true≢false, false≢true}
 use mathlib.Core.List.{List, []}
 use lib.ListN.{length}
-use Rattle.record.specs.Record.{rowOf}
+use Rattle.record.specs.Record.{committed, rowOf}
 use Rattle.rules.specs.declared.Params.{Params}
 use Rattle.rules.specs.declared.Refusal.{Refusal}
 use Rattle.rules.specs.declared.Refusal.the-variants.{OnlineFull, LogFull}
@@ -16,11 +16,12 @@ use Rattle.rules.specs.declared.Verdict.the-variants.{Go, Refuse}
 use Rattle.rules.specs.Lent.{Lent}
 use Rattle.rules.specs.Steps.{Left, begun, readStep, readBytes, updated, committing, aborted}
 use Rattle.rules.specs.Calls.{Outcome, settled, doneWith, beginCall, readCall, updateCall, commitCall, abortCall, restartCall, formatCall}
-use Rattle.history.specs.Past.{Past, fresh, falls}
-use Rattle.history.specs.Run.{Call, Begin, Commit, Abort, Evict, Read, Update, Compact, Checkpoint, Close, Restart, outcome, taken, told, Run, format, no-format, call, restart, loss, loss-inside}
-use Rattle.history.specs.Twins.{transaction, upkeep, isFull, full, Agree, acted, not-due, refused, Aside, keeping, not-formatted, Loses, between-calls, inside, Twins, formats, both, first, second, losses, restarts}
+use Rattle.history.specs.Past.{Past, fresh, falls, rises}
+use Rattle.history.specs.Run.{Call, Begin, Commit, Abort, Evict, Read, Update, Compact, Checkpoint, Close, Restart, outcome, taken, told, afterLoss, Run, format, no-format, call, restart, loss, loss-inside}
+use Rattle.history.specs.Twins.{transaction, upkeep, isFull, full, Agree, acted, not-due, refused, Aside, keeping, not-formatted, lost-again, Loses, between-calls, inside, Twins, formats, both, first, second, losses, restarts}
+use Rattle.rules.proofs.Every.{keep-within}
 use Rattle.history.proofs.Saying.{Unless, begin-said, read-said, update-said, commit-said, abort-said}
-use Rattle.theorem.proofs.Stands.{told-silent}
+use Rattle.theorem.proofs.Stands.{told-up, told-silent}
 use Rattle.theorem.proofs.Shows.{Rightly, run-right, restart-accepted, read-right}
 
 -- the answers agree and the buffers are equal
@@ -62,10 +63,25 @@ taken-aside h (Checkpoint minDel maxAge) e = refl
 taken-aside h Close e = refl
 taken-aside h Restart e = absurd (false≢true e)
 
+-- a history that awaits a restart is as after a loss: one more changes nothing of it
+falls-twice : (h : Past) → falls (falls h) ≡ falls h
+unfolding falls
+falls-twice h = ap (λ (l : List (List ℕ)). record { size = h .size; pages = h .pages; start = h .start; last = h .last; made = l; live = λ (y : ℕ). false; down = true }) (keep-within committed committed (λ r e. e) (h .made))
+
+falls-down : {h : Past} {s : Lent} → Run h s → h .down ≡ true → falls h ≡ h
+unfolding fresh taken rises told
+falls-down (format s g last e) n = absurd (false≢true n)
+falls-down (no-format r g last why e) n = falls-down r n
+falls-down (call {h} {s} r m c) n = absurd (false≢true (sym (told-up h c (outcome s c .answer) m) ∙ n))
+falls-down (restart {h} {s} r) n = absurd (false≢true (sym (ap (λ (a : Answer). told h Restart a .down) (restart-accepted r)) ∙ n))
+falls-down (loss {h} r l f) n = falls-twice h
+falls-down (loss-inside {h} r m minDel maxAge j e k l f) n = falls-twice h
+
 -- what one store may do alone, and its losses, are a run's
 run-aside : {h : Past} {s t : Lent} → Run h s → Aside h s t → Run h t
 run-aside {h} {s} r (keeping n c e) = subst (λ (k : Past). Run k (outcome s c .lent)) (told-silent h c (taken-aside h c e) (outcome s c .answer)) (call r n c)
 run-aside r (not-formatted g last why e) = no-format r g last why e
+run-aside {h} {s} r (lost-again n l f) = subst (λ (k : Past). Run k (afterLoss s l)) (falls-down r n) (loss r l f)
 
 run-loses : {h : Past} {s t : Lent} → Run h s → Loses h s t → Run (falls h) t
 run-loses r (between-calls l f) = loss r l f

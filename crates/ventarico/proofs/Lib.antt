@@ -1,5 +1,4 @@
 -- Laws of the doors.
 pub mod Laws
-pub mod Went
 pub mod Once
 pub mod Clerks

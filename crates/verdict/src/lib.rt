@@ -183,12 +183,11 @@ pub fn judge_update(
         return Verdict::Refuse(Refusal::NotSound);
     }
     let given = layout::params_of(fixed);
-    let m = word::load(tables, layout::COUNT_AT, 2) as usize;
-    let online_size = given.online as usize;
+    let m = word::load(tables, 0, 2) as usize;
     judge::may_update(
         given.size as usize,
         given.pages as usize,
-        online_size - m,
+        given.online as usize,
         tables,
         online,
         m,

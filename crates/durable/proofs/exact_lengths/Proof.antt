@@ -4,7 +4,8 @@ use native.Mathlib.Nat.{le-trans}
 use lib.Dec.{lit≤}
 use mathlib.Core.Path.{refl}
 use Rattle.rules.specs.Sound.{exactLengths}
-use Rattle.durable.proofs.Laws.{ranged, area-small}
+use Rattle.rules.proofs.Ranges.{ranged}
+use Rattle.durable.proofs.Laws.{area-small}
 use Rattle.durable.proofs.exact_lengths.Statement.{statement}
 use Rattle.durable.proofs.exact_lengths.Tie as tie
 

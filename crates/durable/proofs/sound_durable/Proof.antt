@@ -5,7 +5,8 @@ use native.Mathlib.Nat.{le-trans}
 use lib.Dec.{lit≤}
 use Rattle.rules.specs.Areas.{areas}
 use Rattle.rules.specs.Sound.{inRange}
-use Rattle.durable.proofs.Laws.{ranged, lengths-marks, durable-fixed, durable-range, durable-lengths, durable-marks}
+use Rattle.rules.proofs.Ranges.{ranged, lengths-marks}
+use Rattle.durable.proofs.Laws.{durable-fixed, durable-range, durable-lengths, durable-marks}
 use Rattle.durable.proofs.sound_durable.Statement.{statement}
 use Rattle.durable.proofs.sound_durable.Tie as tie
 

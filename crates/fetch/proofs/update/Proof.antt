@@ -6,9 +6,10 @@ use denote.Ref.{now}
 use borrow.Author.Needs.{needs}
 use Rattle.record.specs.Record.{rowOf}
 use Rattle.rules.specs.Areas.{areas}
-use Rattle.table.proofs.Laws.{length-rowOf}
+use Rattle.record.proofs.Rows.{length-rowOf}
 use Rattle.fetch.proofs.Laws.{used-fits}
-use Rattle.fetch.proofs.Rows.{row-page, updated-row}
+use Rattle.record.proofs.Fields.{row-page}
+use Rattle.fetch.proofs.Rows.{updated-row}
 use Rattle.fetch.proofs.update.Statement.{statement}
 use Rattle.fetch.proofs.update.Tie as tie
 

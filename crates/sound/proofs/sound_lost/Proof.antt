@@ -3,7 +3,7 @@ use native.Mathlib.Omega.{arith}
 use mathlib.Core.Path.{_∙_}
 use Rattle.rules.specs.Lent.{Lent}
 use Rattle.rules.specs.Areas.{areas}
-use Rattle.durable.proofs.Laws.{durable-sized, durable-logged}
+use Rattle.rules.proofs.Ranges.{durable-sized, durable-logged}
 use Rattle.sound.proofs.Laws.{lost-is}
 use borrow.Author.Needs.{needs}
 use Rattle.sound.proofs.sound_lost.Statement.{statement}

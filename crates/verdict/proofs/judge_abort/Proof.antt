@@ -1,4 +1,4 @@
--- `verdict::judge_abort` meets its contract: the check first, then the case of `judgeAbort` that the call's own tests pick.
+-- `verdict::judge_abort` meets its contract: the check first, then the call's own refusals.
 use borrow.Author.Tests.{not-false}
 use native.Mathlib.Omega.{arith}
 use mathlib.Core.Path.{_≡_}
@@ -7,7 +7,7 @@ use Rattle.rules.specs.Lent.{Lent}
 use Rattle.rules.specs.Areas.{areas}
 use Rattle.rules.specs.Sound.{sound}
 use Rattle.rules.specs.Shape.{Shaped}
-use Rattle.rules.specs.Calls.{judgeAbort}
+use Rattle.rules.specs.Calls.{verdictOf, judgeAbort}
 use Rattle.rules.proofs.Verdicts.{refused, passed}
 use Rattle.sound.proofs.Laws.{sound-shaped}
 use Rattle.judge.proofs.Laws.{turned}
@@ -32,14 +32,14 @@ is-sound-requires : tie.Need-is-sound-requires
 is-sound-requires c κs = search needs
 
 returns : tie.Need-returns
-unfolding judgeAbort
+unfolding verdictOf judgeAbort
 returns c = refused _ _ _ (turned _ _ _ (c .before .is-sound .ensures) (c .if1 .taken))
 
 may-abort-requires : tie.Need-may-abort-requires
 may-abort-requires c κs = omega (arith, shaped c)
 
 returns-2 : tie.Need-returns-2
-unfolding judgeAbort
+unfolding verdictOf judgeAbort
 returns-2 c = passed _ _ _ _ (past (c .before)) (c .may-abort .ensures)
 
 pub judge-abort-spec : {M : Type 1} → statement M

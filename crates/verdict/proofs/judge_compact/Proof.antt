@@ -1,4 +1,4 @@
--- `verdict::judge_compact` meets its contract: the check first, then the case of `judgeCompact` that the call's own tests pick.
+-- `verdict::judge_compact` meets its contract: the check first, then the call's own refusals.
 use borrow.Author.Tests.{not-false}
 use mathlib.Core.Path.{_≡_}
 use mathlib.Core.Bool.{false, not}
@@ -6,7 +6,7 @@ use Rattle.rules.specs.Lent.{Lent}
 use Rattle.rules.specs.Areas.{areas}
 use Rattle.rules.specs.Sound.{sound}
 use Rattle.rules.specs.Shape.{Shaped}
-use Rattle.rules.specs.Calls.{judgeCompact}
+use Rattle.rules.specs.Calls.{verdictOf, judgeCompact}
 use Rattle.rules.proofs.Verdicts.{refused, passed}
 use Rattle.sound.proofs.Laws.{sound-shaped}
 use Rattle.judge.proofs.Laws.{turned}
@@ -31,7 +31,7 @@ is-sound-requires : tie.Need-is-sound-requires
 is-sound-requires c κs = search needs
 
 returns : tie.Need-returns
-unfolding judgeCompact
+unfolding verdictOf judgeCompact
 returns c = refused _ _ _ (turned _ _ _ (c .before .is-sound .ensures) (c .if1 .taken))
 
 params-of-requires : tie.Need-params-of-requires
@@ -41,7 +41,7 @@ may-compact-requires : tie.Need-may-compact-requires
 may-compact-requires c κs = search needs
 
 returns-2 : tie.Need-returns-2
-unfolding judgeCompact
+unfolding verdictOf judgeCompact
 returns-2 c = passed _ _ _ _ (past (c .before .before)) (rw (c .before .params-of .ensures .pages) at (c .may-compact .ensures))
 
 pub judge-compact-spec : {M : Type 1} → statement M

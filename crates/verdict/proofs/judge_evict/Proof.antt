@@ -1,4 +1,4 @@
--- `verdict::judge_evict` meets its contract: the check first, then the case of `judgeEvict` that the call's own tests pick.
+-- `verdict::judge_evict` meets its contract: the check first, then the call's own refusals.
 use borrow.Author.Tests.{not-false}
 use native.Mathlib.Omega.{arith}
 use mathlib.Core.Path.{_≡_}
@@ -7,7 +7,7 @@ use Rattle.rules.specs.Lent.{Lent}
 use Rattle.rules.specs.Areas.{areas}
 use Rattle.rules.specs.Sound.{sound}
 use Rattle.rules.specs.Shape.{Shaped}
-use Rattle.rules.specs.Calls.{judgeEvict}
+use Rattle.rules.specs.Calls.{verdictOf, judgeEvict}
 use Rattle.rules.proofs.Verdicts.{refused, passed}
 use Rattle.sound.proofs.Laws.{sound-shaped}
 use Rattle.judge.proofs.Laws.{turned}
@@ -32,7 +32,7 @@ is-sound-requires : tie.Need-is-sound-requires
 is-sound-requires c κs = search needs
 
 returns : tie.Need-returns
-unfolding judgeEvict
+unfolding verdictOf judgeEvict
 returns c = refused _ _ _ (turned _ _ _ (c .before .is-sound .ensures) (c .if1 .taken))
 
 params-of-requires : tie.Need-params-of-requires
@@ -45,7 +45,7 @@ may-evict-requires : tie.Need-may-evict-requires
 may-evict-requires c κs = search needs
 
 returns-2 : tie.Need-returns-2
-unfolding judgeEvict
+unfolding verdictOf judgeEvict
 returns-2 c =
     passed _ _ _ _ (past (c .before .before .before))
     (rw (c .before .before .params-of .ensures .pages, c .before .entry-of .ensures, c .before .before .params-of .ensures .frames) at (c .may-evict .ensures))

@@ -8,7 +8,7 @@ use mathlib.Core.Path.{_≡_, refl, _∙_}
 use mathlib.Core.Bool.{Bool, true, false, _&&_}
 use lib.Dec.{leb}
 use borrow.Author.Tests.{le-leb}
-use Rattle.rules.specs.Calls.{judgeFormat}
+use Rattle.rules.specs.Calls.{verdictOf, judgeFormat}
 use borrow.Author.Needs.{needs}
 use Rattle.verdict.proofs.judge_format.Statement.{statement}
 use Rattle.verdict.proofs.judge_format.Tie as tie
@@ -22,18 +22,18 @@ in-range-requires : tie.Need-in-range-requires
 in-range-requires c κs = search needs
 
 returns : tie.Need-returns
-unfolding judgeFormat
+unfolding verdictOf judgeFormat
 returns c = refused _ _ _ (turned _ _ _ (last-fits _ _ _ (c .before .before .before .before .before .before .before .before .before .fits .last .fits) (c .before .in-range .ensures)) (c .if1 .taken))
 
 lengths-requires : tie.Need-lengths-requires
 lengths-requires c κs = so _ _ (c .before .in-range .ensures) (c .if1 .left)
 
 returns-2 : tie.Need-returns-2
-unfolding judgeFormat
+unfolding verdictOf judgeFormat
 returns-2 c = passed _ _ _ _ (turned _ _ _ (last-fits _ _ _ (c .before .before .before .before .before .before .before .before .before .before .before .fits .last .fits) (c .before .before .before .in-range .ensures)) (c .before .before .if1 .left)) (refused _ _ _ (turned _ _ _ (c .before .lengths .ensures) (c .if2 .taken)))
 
 returns-3 : tie.Need-returns-3
-unfolding judgeFormat
+unfolding verdictOf judgeFormat
 returns-3 c = passed _ _ _ _ (turned _ _ _ (last-fits _ _ _ (c .before .before .before .before .before .before .before .before .before .before .before .fits .last .fits) (c .before .before .before .in-range .ensures)) (c .before .before .if1 .left)) (passed _ _ _ _ (turned _ _ _ (c .before .lengths .ensures) (c .if2 .left)) refl)
 
 pub judge-format-spec : {M : Type 1} → statement M

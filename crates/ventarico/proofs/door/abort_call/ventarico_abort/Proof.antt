@@ -9,7 +9,7 @@ use Rattle.rules.specs.Calls.{judgeAbort, abortCall}
 use Rattle.rules.specs.Steps.{aborted}
 use Rattle.sound.proofs.Laws.{sound-shaped}
 use Rattle.rules.proofs.Verdicts.{number-most}
-use Rattle.ventarico.proofs.Went.{abort-went}
+use Rattle.rules.proofs.Went.{abort-went}
 use borrow.Author.Needs.{needs}
 use Rattle.ventarico.proofs.door.abort_call.ventarico_abort.Statement.{statement}
 use Rattle.ventarico.proofs.door.abort_call.ventarico_abort.Tie as tie

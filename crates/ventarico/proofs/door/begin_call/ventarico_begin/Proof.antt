@@ -7,7 +7,7 @@ use mathlib.Core.Path.{_≡_, refl, sym, _∙_}
 use Rattle.rules.specs.Calls.{judgeBegin, beginCall}
 use Rattle.rules.specs.Steps.{begun}
 use Rattle.sound.proofs.Laws.{sound-shaped}
-use Rattle.ventarico.proofs.Went.{begin-went}
+use Rattle.rules.proofs.Went.{begin-went}
 use borrow.Author.Needs.{needs}
 use Rattle.ventarico.proofs.door.begin_call.ventarico_begin.Statement.{statement}
 use Rattle.ventarico.proofs.door.begin_call.ventarico_begin.Tie as tie

@@ -7,7 +7,7 @@ use mathlib.Core.Path.{_≡_, refl, sym, _∙_}
 use Rattle.rules.specs.Calls.{judgeClose, closeCall}
 use Rattle.rules.specs.Steps.{closed}
 use Rattle.sound.proofs.Laws.{sound-shaped, sound-logged}
-use Rattle.ventarico.proofs.Went.{close-went}
+use Rattle.rules.proofs.Went.{close-went}
 use borrow.Author.Needs.{needs}
 use Rattle.ventarico.proofs.door.close_call.ventarico_close.Statement.{statement}
 use Rattle.ventarico.proofs.door.close_call.ventarico_close.Tie as tie

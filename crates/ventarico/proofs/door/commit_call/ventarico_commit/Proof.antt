@@ -9,7 +9,8 @@ use Rattle.rules.specs.Calls.{judgeCommit, commitCall}
 use Rattle.rules.specs.Steps.{committing}
 use Rattle.sound.proofs.Laws.{sound-shaped}
 use Rattle.rules.proofs.Verdicts.{number-most, number-least}
-use Rattle.ventarico.proofs.Went.{commit-went, online-zero, log-zero}
+use Rattle.rules.proofs.Clauses.{online-zero, log-zero}
+use Rattle.rules.proofs.Went.{commit-went}
 use borrow.Author.Needs.{needs}
 use Rattle.ventarico.proofs.door.commit_call.ventarico_commit.Statement.{statement}
 use Rattle.ventarico.proofs.door.commit_call.ventarico_commit.Tie as tie

@@ -7,7 +7,7 @@ use mathlib.Core.Path.{_≡_, refl, sym, _∙_}
 use Rattle.rules.specs.Calls.{judgeCompact, compactCall}
 use Rattle.rules.specs.Steps.{compactStep, compacted}
 use Rattle.sound.proofs.Laws.{sound-shaped}
-use Rattle.ventarico.proofs.Went.{compact-went}
+use Rattle.rules.proofs.Went.{compact-went}
 use Rattle.ventarico.proofs.Laws.{was-due, was-not-due}
 use borrow.Author.Needs.{needs}
 use Rattle.ventarico.proofs.door.compact_call.ventarico_compact.Statement.{statement}

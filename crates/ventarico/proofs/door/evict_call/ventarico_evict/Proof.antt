@@ -7,7 +7,7 @@ use mathlib.Core.Path.{_≡_, refl, sym, _∙_}
 use Rattle.rules.specs.Calls.{judgeEvict, evictCall}
 use Rattle.rules.specs.Steps.{evicted}
 use Rattle.sound.proofs.Laws.{sound-shaped}
-use Rattle.ventarico.proofs.Went.{evict-went}
+use Rattle.rules.proofs.Went.{evict-went}
 use borrow.Author.Needs.{needs}
 use Rattle.ventarico.proofs.door.evict_call.ventarico_evict.Statement.{statement}
 use Rattle.ventarico.proofs.door.evict_call.ventarico_evict.Tie as tie

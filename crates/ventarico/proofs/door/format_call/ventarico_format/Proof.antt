@@ -8,8 +8,8 @@ use mathlib.Core.Path.{_≡_, refl, sym, _∙_}
 use mathlib.Core.Bool.{true}
 use Rattle.rules.specs.Calls.{judgeFormat, formatCall}
 use Rattle.rules.specs.Steps.{formatted}
-use Rattle.durable.proofs.Laws.{ranged, lengths-marks}
-use Rattle.ventarico.proofs.Went.{format-went}
+use Rattle.rules.proofs.Ranges.{ranged, lengths-marks}
+use Rattle.rules.proofs.Went.{format-went}
 use borrow.Author.Needs.{needs}
 use Rattle.ventarico.proofs.door.format_call.ventarico_format.Statement.{statement}
 use Rattle.ventarico.proofs.door.format_call.ventarico_format.Tie as tie

@@ -9,7 +9,7 @@ use lib.ListN.{length}
 use Rattle.rules.specs.Calls.{judgeRead, readCall}
 use Rattle.rules.specs.Steps.{readStep}
 use Rattle.sound.proofs.Laws.{sound-shaped}
-use Rattle.ventarico.proofs.Went.{read-went}
+use Rattle.rules.proofs.Went.{read-went}
 use borrow.Author.Needs.{needs}
 use Rattle.ventarico.proofs.door.read_call.ventarico_read.Statement.{statement}
 use Rattle.ventarico.proofs.door.read_call.ventarico_read.Tie as tie

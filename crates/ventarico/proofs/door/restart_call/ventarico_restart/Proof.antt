@@ -6,8 +6,8 @@ use Rattle.rules.specs.declared.Verdict.the-variants.{Go, Refuse}
 use mathlib.Core.Path.{_≡_, refl, sym, _∙_}
 use Rattle.rules.specs.Calls.{judgeRestart, restartCall}
 use Rattle.rules.specs.Steps.{restarted}
-use Rattle.durable.proofs.Laws.{durable-sized, durable-logged, durable-log-records}
-use Rattle.ventarico.proofs.Went.{restart-went}
+use Rattle.rules.proofs.Ranges.{durable-sized, durable-logged, durable-log-records}
+use Rattle.rules.proofs.Went.{restart-went}
 use borrow.Author.Needs.{needs}
 use Rattle.ventarico.proofs.door.restart_call.ventarico_restart.Statement.{statement}
 use Rattle.ventarico.proofs.door.restart_call.ventarico_restart.Tie as tie

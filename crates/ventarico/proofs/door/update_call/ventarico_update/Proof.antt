@@ -9,7 +9,8 @@ use Rattle.rules.specs.Calls.{judgeUpdate, updateCall}
 use Rattle.rules.specs.Steps.{updated}
 use Rattle.sound.proofs.Laws.{sound-shaped}
 use Rattle.rules.proofs.Verdicts.{number-most}
-use Rattle.ventarico.proofs.Went.{update-went, online-zero}
+use Rattle.rules.proofs.Clauses.{online-zero}
+use Rattle.rules.proofs.Went.{update-went}
 use borrow.Author.Needs.{needs}
 use Rattle.ventarico.proofs.door.update_call.ventarico_update.Statement.{statement}
 use Rattle.ventarico.proofs.door.update_call.ventarico_update.Tie as tie

@@ -1,0 +1,2 @@
+# turns: a failed write is not noticed.
+/ssize_t some = pwrite/,/return true/s/return false;/return true;/

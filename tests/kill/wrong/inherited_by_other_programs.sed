@@ -1,0 +1,2 @@
+# doors: the files stay open in a program that is started.
+s/flags | O_NOFOLLOW | O_CLOEXEC/flags | O_NOFOLLOW/

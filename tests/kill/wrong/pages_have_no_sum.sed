@@ -1,0 +1,2 @@
+# doors: pages are covered by no checksum.
+/^static bool sum_is_right/,/^}/s/return /return n >= PART_PAGES || /

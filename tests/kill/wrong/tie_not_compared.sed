@@ -1,0 +1,2 @@
+# doors: two lives of one copy are not told apart.
+s/ || head->tie != f->tie)/)/

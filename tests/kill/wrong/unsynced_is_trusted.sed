@@ -1,0 +1,2 @@
+# turns: what can be read is taken to be on the disk.
+s/if (!rewrite_unsynced(f))/if (false)/
