@@ -14,7 +14,7 @@ use Rattle.walwrite.proofs.judge_write.Statement.{statement}
 use Rattle.walwrite.proofs.judge_write.Tie as tie
 use Rattle.walwrite.proofs.judge_write.Reads as reads
 use Rattle.walwrite.proofs.judge_write.Lts as lts
-use Rattle.durable.proofs.params_of.Reads as params-of-reads
+use Rattle.layout.proofs.params_of.Reads as params-of-reads
 use Rattle.sound.proofs.is_sound.Reads as is-sound-reads
 use Rattle.walwrite.proofs.may_write.Reads as may-write-reads
 
@@ -41,17 +41,17 @@ params-of-requires c κs = shaped c .sized .fixed
 
 -- src/lib.rt:90:36
 cast-may-write : tie.Need-cast-may-write
-cast-may-write c = omega (arith, shaped (c .before .before) .sized .pages, c .before .params-of .ensures .1)
+cast-may-write c = omega (arith, shaped (c .before .before) .sized .pages, c .before .params-of .ensures .pages)
 
 -- src/lib.rt:90:5
 may-write-requires : tie.Need-may-write-requires
-may-write-requires c κs = omega (arith, shaped (c .before .before) .sized .size, c .before .params-of .ensures .0)
+may-write-requires c κs = omega (arith, shaped (c .before .before) .sized .size, c .before .params-of .ensures .size)
 
 -- src/lib.rt:72:1
 returns-2 : tie.Need-returns-2
 returns-2 c = let p = c .before .before .params-of .ensures in
     let a = c .before .before .before .before .before .before .before .before .before .before .before .before .before .args in
-    judge-sound (lent (c .before .before .before .before)) _ _ _ _ _ (c .before .before .before .before .is-sound .ensures) (c .before .before .before .if1 .left) (c .may-write .ensures ∙ (λ i. mayWrite (p .0 i) (p .1 i) (now (a .list)) (a .room) (a .order)))
+    judge-sound (lent (c .before .before .before .before)) _ _ _ _ _ (c .before .before .before .before .is-sound .ensures) (c .before .before .before .if1 .left) (c .may-write .ensures ∙ (λ i. mayWrite (p .size i) (p .pages i) (now (a .list)) (a .room) (a .order)))
 
 pub judge-write-spec : {M : Type 1} → statement M
 judge-write-spec =

@@ -14,7 +14,7 @@ use Rattle.walwrite.proofs.ventarico_wal_write.Statement.{statement}
 use Rattle.walwrite.proofs.ventarico_wal_write.Tie as tie
 use Rattle.walwrite.proofs.ventarico_wal_write.Reads as reads
 use Rattle.walwrite.proofs.ventarico_wal_write.Lts as lts
-use Rattle.durable.proofs.params_of.Reads as params-of-reads
+use Rattle.layout.proofs.params_of.Reads as params-of-reads
 use Rattle.walwrite.proofs.judge_write.Reads as judge-write-reads
 use Rattle.walwrite.proofs.refused.Reads as refused-reads
 use Rattle.walwrite.proofs.write_log.Reads as write-log-reads
@@ -64,16 +64,16 @@ load-requires c κs = omega (arith, shaped (c .before) .sized .tables)
 
 -- src/lib.rt:246:17
 cast-write-log : tie.Need-cast-write-log
-cast-write-log c = omega (arith, shaped (c .before .before .before .before) .sized .size, c .before .before .before .params-of .ensures .0)
+cast-write-log c = omega (arith, shaped (c .before .before .before .before) .sized .size, c .before .before .before .params-of .ensures .size)
 
 -- src/lib.rt:247:17
 cast-write-log-2 : tie.Need-cast-write-log-2
-cast-write-log-2 c = omega (arith, shaped (c .before .before .before .before .before) .sized .pages, c .before .before .before .before .params-of .ensures .1)
+cast-write-log-2 c = omega (arith, shaped (c .before .before .before .before .before) .sized .pages, c .before .before .before .before .params-of .ensures .pages)
 
 -- src/lib.rt:241:13
 write-log-requires : tie.Need-write-log-requires
 write-log-requires c κs = let p = c .before .before .before .before .params-of .ensures in
-    write-asks (lent (c .before .before .before .before .before .before .before)) _ _ _ _ _ _ (shaped (c .before .before .before .before .before)) (p .0) (p .1) (c .before .before .before .load .ensures .0) (may (c .before .before .before .before .before))
+    write-asks (lent (c .before .before .before .before .before .before .before)) _ _ _ _ _ _ (shaped (c .before .before .before .before .before)) (p .size) (p .pages) (c .before .before .before .load .ensures .0) (may (c .before .before .before .before .before))
 
 -- src/lib.rt:257:24
 cast-t24 : tie.Need-cast-t24
@@ -91,7 +91,7 @@ same-length c = search needs
 -- src/lib.rt:205:1
 returns-2 : tie.Need-returns-2
 returns-2 c = let p = c .before .before .before .before .before .before .before .params-of .ensures in
-    write-done (lent (c .before .before .before .before .before .before .before .before .before .before)) _ _ _ _ _ _ _ _ _ _ (went (c .before .before .before .before .before .before .before .before)) (p .0) (p .1) (c .before .before .before .before .before .before .load .ensures .0) (c .before .before .write-log .ensures)
+    write-done (lent (c .before .before .before .before .before .before .before .before .before .before)) _ _ _ _ _ _ _ _ _ _ (went (c .before .before .before .before .before .before .before .before)) (p .size) (p .pages) (c .before .before .before .before .before .before .load .ensures .0) (c .before .before .write-log .ensures)
 
 pub ventarico-wal-write-spec : {M : Type 1} → statement M
 ventarico-wal-write-spec =
