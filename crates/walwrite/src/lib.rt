@@ -97,7 +97,7 @@ fn put_image(g: &mut [u8], stored: &[u8], size: usize, p: PageNo, online: &[u8],
 {
     let a = p.0 * size;
     let e = a + size;
-    frames::copy(g, &stored[a..e]);
+    fill::copy(g, &stored[a..e]);
     apply::fold(online, 0, m, p, true, g);
 }
 

@@ -6,7 +6,7 @@ use Rattle.walwrite.proofs.put_image.Tie as tie
 use Rattle.walwrite.proofs.put_image.Reads as reads
 use Rattle.walwrite.proofs.put_image.Lts as lts
 use Rattle.apply.proofs.fold.Reads as fold-reads
-use Rattle.frames.proofs.copy.Reads as copy-reads
+use Rattle.fill.proofs.copy.Reads as copy-reads
 
 -- src/lib.rt:98:13
 mul-a : tie.Need-mul-a
