@@ -9,7 +9,7 @@ use mathlib.Core.List.{List, [], _∷_, _++_, append-assoc, append-nil}
 use lib.ListN.{length, getD, take, drop, length-append, length-drop, length-take, drop-of-length-le, take-append-drop}
 use lib.Seq.{drop-cons, take-at, drop-at, drop-drop, take-all, length-take-le}
 use lib.Dec.{eqb, leb, ltb}
-use borrow.Author.Tests.{lt-ltb, le-ltb, ltb-true, ltb-false, le-leb, lt-leb, leb-true, eq-eqb, ne-eqb}
+use borrow.Author.Tests.{lt-ltb, le-ltb, ltb-true, ltb-false, le-leb, lt-leb, leb-true, eqb-false, eq-eqb, ne-eqb}
 use Rattle.word.proofs.Tests.{so, not-so}
 use Rattle.record.specs.Part.{withPart}
 use Rattle.record.specs.Rows.{rows, keep}
@@ -240,6 +240,22 @@ go-parts size pages room order l = pick (listed pages l) (leb order 1) (leb (len
     pick true true false d ea ec ed k = let z : _≡_ {A = ℕ} 0 1 = cc in absurd (omega arith)
     pick true true true true ea ec ed k = let z : _≡_ {A = ℕ} 0 1 = cc in absurd (omega arith)
     pick true true true false ea ec ed k = (ea, leb-true (length l) 4294967295 ec, ltb-false room (32 + length l * (24 + size)) ed)
+
+-- and that the list is not empty
+some : (n : ℕ) → (n ≡ 0 → ⊥) → 1 ≤ n
+some zero f = absurd (f refl)
+some (suc n) f = omega arith
+
+pub go-some : (size pages room order : ℕ) (l : List ℕ) → mayWrite size pages l room order ≡ Go → 1 ≤ length l
+unfolding mayWrite refuseIf
+go-some size pages room order l = pick (listed pages l) (leb order 1 && leb (length l) 4294967295) (ltb room (32 + length l * (24 + size))) (eqb (length l) 0) refl
+  where
+    pick : (a b c d : Bool) → eqb (length l) 0 ≡ d → refuseIf (not a) (Store (Argument Page)) (refuseIf (not b) (Store (Argument Parameter)) (refuseIf c ShortTarget (refuseIf d EmptyList Go))) ≡ Go → 1 ≤ length l
+    pick false b c d e k = let z : _≡_ {A = ℕ} 0 1 = cc in absurd (omega arith)
+    pick true false c d e k = let z : _≡_ {A = ℕ} 0 1 = cc in absurd (omega arith)
+    pick true true true d e k = let z : _≡_ {A = ℕ} 0 1 = cc in absurd (omega arith)
+    pick true true false true e k = let z : _≡_ {A = ℕ} 0 1 = cc in absurd (omega arith)
+    pick true true false false e k = some (length l) (eqb-false (length l) 0 e)
 
 -- `judge_write`
 pub judge-unsound : (s : Lent) (l : List ℕ) (room order : ℕ) (b : Bool) → b ≡ sound s → not b ≡ true → Refuse (Store NotSound) ≡ judgeWrite s l room order
