@@ -1,16 +1,15 @@
 -- What the desk reads in a log that the call wrote is what was committed.
-use Prim.Native.Nat.{ℕ, _+_, _*_, _^_, _≤_, _<_}
+use Prim.Native.Nat.{ℕ, _+_, _*_, _^_, _<_}
 use native.Mathlib.Omega.{arith}
 use mathlib.Core.Path.{_≡_, refl, sym, ap, _∙_, subst}
 use mathlib.Core.Bool.{Bool, true, false, _&&_}
-use mathlib.Core.List.{List, [], _∷_, _++_}
+use mathlib.Core.List.{List, [], _++_}
 use lib.ListN.{length, take, drop}
 use lib.Seq.{take-at}
 use lib.Dec.{eqb, ltb}
 use borrow.Author.Tests.{ltb-true, eqb-true}
 use Rattle.rules.proofs.Every.{meet}
 use Rattle.word.proofs.Tests.{and-both, among-four}
-use Rattle.record.specs.Part.{part}
 use Rattle.record.specs.Rows.{keep, any}
 use Rattle.record.specs.Record.{committedOn}
 use Rattle.apply.proofs.Laws.{length-applied}
@@ -18,8 +17,7 @@ use Rattle.rules.specs.declared.Refusal.{Refusal}
 use Rattle.rules.specs.declared.Refusal.the-variants.{NotSound, Argument, ShortBuffer, NotLive, Live, Held, OnlineFull, LogFull, NumbersEnd, NoFrame}
 use Rattle.rules.specs.Answers.{codeOf}
 use Rattle.rules.specs.Lent.{Lent, sizeOf, pagesOf, framesOf, roomOf, spanOf, onlineOf, pageIn}
-use Rattle.rules.specs.Shape.{Shaped}
-use Rattle.rules.specs.Sound.{every, isPageSize, inRange, s1-parameters, s2-lengths, s3-logged, s16-logged, s18-first, s15-stamps, s17-s19-dirty, s7-log-records, s14-log-zero, soundDurable, soundLost, sound}
+use Rattle.rules.specs.Sound.{every, isPageSize, inRange, s1-parameters, s2-lengths, s3-logged, s16-logged, s18-first, s15-stamps, s17-s19-dirty, s7-log-records, s14-log-zero, soundDurable, sound}
 use Rattle.sound.proofs.Laws.{sound-durable, sound-shaped}
 use Rattle.readback.proofs.Pages.{page-length}
 use Rattle.wal.specs.Layout as wal
@@ -29,7 +27,7 @@ use Rattle.walwrite.specs.declared.Why.the-variants.{Store, ShortTarget, EmptyL
 use Rattle.walwrite.specs.declared.Ruling.{Ruling}
 use Rattle.walwrite.specs.declared.Ruling.the-variants.{Go, Refuse}
 use Rattle.walwrite.specs.Image.{imageIn, imageOf}
-use Rattle.walwrite.specs.Write.{codeOfWhy, listed, mayWrite, judgeWrite, logOf, settled, writeCall}
+use Rattle.walwrite.specs.Write.{codeOfWhy, listed, judgeWrite, logOf, settled, writeCall}
 use Rattle.walwrite.proofs.Laws.{judged-go, go-parts, go-some}
 use Rattle.history.specs.Past.{Past}
 use Rattle.history.specs.Run.{Run}

@@ -2,24 +2,23 @@
 use Prim.Native.Nat.{ℕ, zero, suc, _+_, _*_, _-_, _^_, _≤_, _<_}
 use native.Mathlib.Omega.{arith}
 use native.Mathlib.Nat.{suc-mul}
-use mathlib.Core.Path.{_≡_, refl, sym, ap, _∙_, subst}
+use mathlib.Core.Path.{_≡_, refl, sym, ap, _∙_}
 use mathlib.Core.Bool.{Bool, true, false, cond, not, _&&_, _||_}
 use mathlib.Core.List.{List, [], _∷_, _++_, append-assoc, append-nil}
 use lib.ListN.{length, take, drop, length-append}
 use lib.Seq.{take-at, drop-at, drop-drop}
-use lib.Dec.{eqb, leb, ltb}
+use lib.Dec.{eqb, ltb}
 use borrow.Author.Tests.{ltb-true, lt-leb, eqb-true, eqb-false, eq-eqb, ne-eqb}
 use Rattle.word.proofs.Tests.{and-both}
 use Rattle.record.specs.Rows.{any}
 use Rattle.rules.specs.Sound.{every}
 use Rattle.wal.specs.declared.Sums.{Sums}
 use Rattle.wal.specs.declared.Header.{Header}
-use Rattle.wal.specs.declared.Opened.{Opened}
 use Rattle.wal.specs.declared.Opened.the-variants.{Good}
 use Rattle.wal.specs.declared.Seen.the-variants.{Valid}
 use Rattle.wal.specs.Sum.{fieldsOf}
 use Rattle.wal.specs.Layout.{Frame, isPageSize, opened, frameSize, isValid, seen, frameAt, framesFrom, validFrames}
-use Rattle.wal.specs.Written.{headFields, headOf, headBytes, imageSums, frameBytes, commitBefore, framesBytes, written}
+use Rattle.wal.specs.Written.{headOf, headBytes, imageSums, frameBytes, commitBefore, framesBytes, written}
 use Rattle.wal.proofs.Frames.{more, none}
 use Rattle.wal.proofs.Opens.{size-range}
 use Rattle.waljudge.specs.Judge.{isCommit, isOf, upToCommit, lastPlace, endOf, judgedBy, judged, foundBy, foundIn}

@@ -6,18 +6,18 @@ use native.Mathlib.Numerals.{add-one}
 use mathlib.Core.Path.{_≡_, refl, sym, ap, _∙_}
 use mathlib.Core.Bool.{Bool, true, false, cond, not, _&&_}
 use mathlib.Core.List.{List, [], _∷_, _++_, append-assoc, append-nil}
-use lib.ListN.{length, getD, take, drop, length-append, length-drop, length-take, drop-of-length-le, take-append-drop}
-use lib.Seq.{drop-cons, take-at, drop-at, drop-drop, take-all, length-take-le}
+use lib.ListN.{length, getD, take, drop, length-append, length-drop, drop-of-length-le, take-append-drop}
+use lib.Seq.{drop-cons, take-at, drop-at, drop-drop, length-take-le}
 use lib.Dec.{eqb, leb, ltb}
 use borrow.Author.Tests.{lt-ltb, le-ltb, ltb-true, ltb-false, le-leb, lt-leb, leb-true, eqb-false, eq-eqb, ne-eqb}
 use Rattle.word.proofs.Tests.{so, not-so}
 use Rattle.record.specs.Part.{withPart}
 use Rattle.record.specs.Rows.{rows, keep}
-use Rattle.record.specs.Record.{committedOn, chosen, applied}
+use Rattle.record.specs.Record.{chosen, applied}
 use Rattle.rules.specs.declared.Bad.the-variants.{Page, Parameter}
 use Rattle.rules.specs.declared.Refusal.the-variants.{NotSound, Argument}
 use Rattle.rules.specs.declared.Reply.{Reply}
-use Rattle.rules.specs.Lent.{Lent, sizeOf, pagesOf, countOf, pageIn}
+use Rattle.rules.specs.Lent.{Lent, sizeOf, pagesOf, countOf}
 use Rattle.rules.specs.Shape.{Shaped}
 use Rattle.rules.specs.Sound.{every, sound}
 use Rattle.rules.proofs.Every.{every-at}
@@ -31,7 +31,7 @@ use Rattle.walwrite.specs.declared.Why.the-variants.{Store, ShortTarget,
 use Rattle.walwrite.specs.declared.Ruling.{Ruling}
 use Rattle.walwrite.specs.declared.Ruling.the-variants.{Go, Refuse}
 use Rattle.walwrite.specs.Image.{imageIn}
-use Rattle.walwrite.specs.Write.{codeOfWhy, listed, refuseIf, mayWrite, judgeWrite, logOf, Outcome, settled, writeCall}
+use Rattle.walwrite.specs.Write.{codeOfWhy, listed, refuseIf, mayWrite, judgeWrite, logOf, settled, writeCall}
 
 -- the rest of a list, from a place within it
 rest : (l : List ℕ) (i : ℕ) → i < length l → drop i l ≡ getD l i 0 ∷ drop (i + 1) l
@@ -155,9 +155,6 @@ frames-turn h image count i at w c l t ys u s r k room n ec did inv =
     ∙ append-assoc (take at t) ys (framesBytes h image count (drop (i + 1) l) r)
     ∙ ap (λ (x : List ℕ). take at t ++ x) (sym g)
     ∙ inv
-
-pub frames-start : (h : Header) (image : ℕ → List ℕ) (count : ℕ) (l t : List ℕ) (s : Sums) → take 32 t ++ framesBytes h image count (drop 0 l) s ≡ take 32 t ++ framesBytes h image count l s
-frames-start h image count l t s = refl
 
 pub frames-done : (h : Header) (image : ℕ → List ℕ) (count i at : ℕ) (l t t₀ : List ℕ) (s s₀ : Sums) → length l ≤ i → at ≤ length t → 32 ≤ length t₀ → take at t ++ framesBytes h image count (drop i l) s ≡ take 32 t₀ ++ framesBytes h image count l s₀ → drop at t ≡ drop at t₀ → t ≡ take 32 t₀ ++ (framesBytes h image count l s₀ ++ drop (32 + length (framesBytes h image count l s₀)) t₀)
 unfolding framesBytes
