@@ -888,7 +888,8 @@ static bool judge_in_use(struct filestore *f, const struct journal_head *head, c
     if (!replay_all(f, journal))
         return refuse(f, FILESTORE_DAMAGED, "the journal has a record that fits no part of the file",
             "take back a copy of both files");
-    if ((f->state == APPLYING && f->records < f->applying) || one_is_missing(f, journal))
+    if ((f->state == APPLYING && f->records < f->applying) || one_is_missing(f, journal) ||
+        (!f->ended && f->end > f->journal_length - f->layout.sums_record))
         return has_damage(f, f->beside, "record", f->records + 1) || refuse_damage(f);
     return true;
 }

@@ -30,7 +30,8 @@ typedef struct {
     uint32_t code;    /* 0 done, else the refusal; the rest is 0 then */
     uint32_t ended;   /* play: why no further record was restored. 0: all that the header counts (all ones: all whole
                          ones that the file holds); 1: the next one is cut short; 2: its checksum is wrong. Write: 0 */
-    uint32_t records; /* records restored, or written */
+    uint32_t records; /* records restored, or written; restored ones by remainder of 2 to the 32nd, which only a file of
+                         2 terabytes and more can reach */
 } ventarico_journal_reply;
 
 /* Plays the first header's records over pages (page 1 of the journal is at byte 0), in their order. */

@@ -12,19 +12,24 @@ mod bench_tables;
 mod bench_wal;
 mod calls;
 mod cases;
+mod container;
 mod coverage;
 mod damage;
 mod desk;
+mod faults;
 mod fence;
 mod flash;
 mod history;
+mod inspect;
 mod journal;
 mod journal_run;
 mod journal_wrong;
+mod json;
 mod layouts;
 #[cfg(any(archive_journal, archive_wal))]
 mod layouts_archive;
 mod ledger;
+mod life;
 mod machine;
 mod pair;
 mod plot;
@@ -34,6 +39,8 @@ mod record;
 mod session;
 mod sound;
 mod states;
+#[cfg(test)]
+mod touched;
 mod twin;
 mod wal;
 mod wal_run;
@@ -86,12 +93,15 @@ fn usage() -> ExitCode {
          \x20      ventarico-host wal [percent] [seed]     write-ahead logs, written and judged (default 100)\n\
          \x20      ventarico-host coverage [calls] [seed]  sessions and damage, then what they have shown\n\
          \x20      ventarico-host all [calls] [seed]       all of these\n\
-         \x20      ventarico-host bench WHAT [FILE]        calls, growth, ledger, flash, wal or quick; see host/bench\n\
+         \x20      ventarico-host bench WHAT [FILE]        calls, growth, ledger, rebuild, flash, wal or quick; see host/bench\n\
+         \x20      ventarico-host life FILE                the torch's story as a page for a browser; see host/life\n\
+         \x20      ventarico-host {}  what a store in a file holds, and whether it is sound\n\
          \n\
          for the service desk:\n\
          \x20      ventarico-host wal-judge FILE                  a write-ahead log: frames, commits, where it stops and why\n\
          \x20      ventarico-host journal-play JOURNAL DATABASE   plays a rollback journal over a database file",
-        CALLS / PAIRS_PART
+        CALLS / PAIRS_PART,
+        inspect::WORDS
     );
     ExitCode::from(2)
 }
@@ -101,8 +111,16 @@ fn main() -> ExitCode {
     if words.first().is_some_and(|word| word == "bench") {
         return bench_tables::command(&Tested {}, LINKED, &words[1..]).unwrap_or_else(usage);
     }
+    if words.first().is_some_and(|word| word == "inspect") {
+        return inspect::command(&words[1..]);
+    }
     if let Some(ended) = desk::command(&words) {
         return ended;
+    }
+    if let [word, file] = &words[..] {
+        if word == "life" {
+            return picture_of_a_life(file);
+        }
     }
     let Some(numbers) =
         words.iter().skip(1).map(|word| word.replace('_', "").parse().ok()).collect::<Option<Vec<u64>>>()
@@ -162,6 +180,22 @@ fn main() -> ExitCode {
     };
     println!("{passed} passed, {failed} failed");
     ExitCode::from(u8::from(failed > 0))
+}
+
+/// Writes the page of the torch's story.
+fn picture_of_a_life(file: &str) -> ExitCode {
+    let written = life::page(&mut Tested {}, LINKED)
+        .and_then(|(html, steps)| std::fs::write(file, html).map(|()| steps).map_err(|why| format!("{file}: {why}")));
+    match written {
+        Ok(steps) => {
+            println!("{file}: {steps} steps; open it in a browser");
+            ExitCode::SUCCESS
+        }
+        Err(why) => {
+            println!("life FAILED: {why}. Next: run the cases, then look at host/src/life.rs");
+            ExitCode::FAILURE
+        }
+    }
 }
 
 /// From the clock: each run without a seed goes over new ground.

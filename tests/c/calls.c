@@ -13,6 +13,7 @@ int main(void)
     topic("soundness", soundness);
     topic("ranges", ranges);
     topic("clerk", clerk);
+    topic("wrappers", wrappers);
     topic("journal", journal);
     topic("wal", wal);
     return checks_end();

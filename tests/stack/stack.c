@@ -1,5 +1,5 @@
 /* How much stack each call takes, on the largest store: every call runs on a painted stack of its own, and the deepest
- * byte that was written is looked up afterwards. "No call needs more than 32 KiB of stack."
+ * byte that was written is looked up afterwards. No call needs more than 16 KiB of it.
  */
 #include <stdint.h>
 #include <stdio.h>
@@ -11,7 +11,7 @@
 #include "ventarico_journal.h"
 #include "ventarico_wal.h"
 
-enum { SIZE = 4096, PAGES = 1024, FRAMES = 64, ONLINE = 512, LOG = 2048, LIMIT = 32 * 1024, STACK = 256 * 1024, PAINT = 0xA5 };
+enum { SIZE = 4096, PAGES = 1024, FRAMES = 64, ONLINE = 512, LOG = 2048, LIMIT = 16 * 1024, STACK = 256 * 1024, PAINT = 0xA5 };
 
 static uint8_t fixed[20], marks[12 + 8 * PAGES], log_rows[14 * LOG], stored[(size_t)SIZE * PAGES];
 static uint8_t tables[35 + FRAMES + PAGES], online[19 * ONLINE], pool[(size_t)SIZE * FRAMES], buffer[SIZE];

@@ -1,17 +1,17 @@
 -- Laws of numbers highest byte first, of the checksum, of the sizes and of the header's test.
-use Prim.Native.Nat.{ℕ, zero, suc, _+_, _*_, _-_, _/_, _%_, _^_, _≤_, _<_}
+use Prim.Native.Nat.{ℕ, suc, _+_, _*_, _-_, _/_, _%_, _^_, _≤_, _<_}
 use native.Mathlib.Omega.{arith}
 use native.Mathlib.Nat.{div-div-eq-div-mul}
-use mathlib.Core.Path.{_≡_, refl, sym, ap, _∙_, subst}
-use mathlib.Core.Bool.{Bool, true, false, not, _&&_, _||_}
+use mathlib.Core.Path.{_≡_, refl, sym, ap, _∙_}
+use mathlib.Core.Bool.{Bool, true, false, _&&_}
 use mathlib.Core.List.{List, [], _∷_, _++_, append-nil, append-assoc}
 use lib.ListN.{length, getD, take, drop, set, drop-of-length-le}
 use lib.Seq.{sets-eq, drop-drop, take-all, getD-drop}
 use lib.Dec.{eqb, leb}
 use borrow.Author.Tests.{eq-eqb, eqb-true, leb-true, le-leb, lt-leb}
-use Rattle.word.proofs.Tests.{and-both, among-four}
-use Rattle.record.specs.Part.{part, withPart}
-use Rattle.journal.specs.Layout.{big, bytesOf, firstBytes, isSize, isSector, wholePages, same, isHeader, spaced, checksum, sectorOf, sizeOf}
+use Rattle.word.proofs.Tests.{and-both}
+use Rattle.record.specs.Part.{withPart}
+use Rattle.journal.specs.Layout.{big, bytesOf, firstBytes, isSector, same, isHeader, spaced, sectorOf, sizeOf}
 
 -- `big::store`: four stores in a row
 pub stored : (l : List ℕ) (at v : ℕ) → at + 4 ≤ length l

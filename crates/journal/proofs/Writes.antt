@@ -2,17 +2,17 @@
 use Prim.Native.Nat.{ℕ, zero, suc, _+_, _*_, _-_, _/_, _≤_, _<_}
 use native.Mathlib.Omega.{arith}
 use native.Mathlib.Nat.{add-mul, one-mul, le-div-iff-mul-le}
-use mathlib.Core.Path.{_≡_, refl, sym, ap, _∙_}
-use mathlib.Core.Bool.{Bool, true, false, not, _&&_, _||_}
+use mathlib.Core.Path.{_≡_, refl, ap, _∙_}
+use mathlib.Core.Bool.{Bool, true, false, _&&_, _||_}
 use mathlib.Core.List.{List, [], _∷_, _++_}
 use lib.ListN.{length, getD, replicate, length-append, length-replicate}
-use lib.Dec.{eqb, ltb, leb}
+use lib.Dec.{ltb, leb}
 use borrow.Author.Tests.{ltb-false, leb-true, not-false}
 use Rattle.word.proofs.Tests.{and-both}
 use Rattle.record.specs.Part.{part}
 use Rattle.record.proofs.Parts.{length-part}
-use Rattle.journal.specs.Layout.{isSize, isSector, wholePages, firstBytes, bytesOf, headerBytes, recordBytes, checksum}
-use Rattle.journal.specs.Writing.{anyPast, savedPage, journalLength}
+use Rattle.journal.specs.Layout.{isSize, isSector, wholePages, firstBytes, bytesOf, headerBytes, Saved, recordBytes, checksum}
+use Rattle.journal.specs.Writing.{anyPast, journalLength}
 use Rattle.journal.specs.Calls.{writeCode}
 use Rattle.journal.proofs.Tells.{went-by, size-range, sector-range, pages-range}
 
@@ -44,19 +44,19 @@ listed lent size [] h i k = absurd (omega arith)
 listed lent size (p ∷ ps) h zero k = ltb-false lent ((p + 1) * size) (neither (ltb lent ((p + 1) * size)) (anyPast lent size ps) h .0)
 listed lent size (p ∷ ps) h (suc i) k = listed lent size ps (neither (ltb lent ((p + 1) * size)) (anyPast lent size ps) h .1) i (omega arith)
 
--- a record has its length, and so have several
-module _ (nonce size : ℕ) (pages : List ℕ) where
-  pub length-record : (p : ℕ) → (p + 1) * size ≤ length pages → length (recordBytes nonce size (savedPage size pages p)) ≡ size + 8
-  unfolding recordBytes
-  length-record p h =
-      let image : List ℕ = part (p * size) size pages in
-      let s : (p + 1) * size ≡ p * size + size = page-span p size in
-      let n : length image ≡ size = length-part (p * size) size pages (omega arith) in
-      let a : length (bytesOf (p + 1) ++ (image ++ bytesOf (checksum nonce size image))) ≡ length (bytesOf (p + 1)) + length (image ++ bytesOf (checksum nonce size image)) = length-append (bytesOf (p + 1)) (image ++ bytesOf (checksum nonce size image)) in
-      let b : length (image ++ bytesOf (checksum nonce size image)) ≡ length image + length (bytesOf (checksum nonce size image)) = length-append image (bytesOf (checksum nonce size image)) in
-      let c₁ : length (bytesOf (p + 1)) ≡ 4 = length-bytes (p + 1) in
-      let c₂ : length (bytesOf (checksum nonce size image)) ≡ 4 = length-bytes (checksum nonce size image) in
-      omega arith
+-- a record has its length
+pub length-record : (nonce size : ℕ) (r : Saved) → length (r .image) ≡ size → length (recordBytes nonce size r) ≡ size + 8
+unfolding recordBytes
+length-record nonce size r n =
+    let sum : ℕ = checksum nonce size (r .image) in
+    let a : length (bytesOf (r .number) ++ (r .image ++ bytesOf sum)) ≡ length (bytesOf (r .number)) + length (r .image ++ bytesOf sum) = length-append (bytesOf (r .number)) (r .image ++ bytesOf sum) in
+    let b : length (r .image ++ bytesOf sum) ≡ length (r .image) + length (bytesOf sum) = length-append (r .image) (bytesOf sum) in
+    let c₁ : length (bytesOf (r .number)) ≡ 4 = length-bytes (r .number) in
+    let c₂ : length (bytesOf sum) ≡ 4 = length-bytes sum in
+    omega arith
+
+pub length-page : (size p : ℕ) (pages : List ℕ) → (p + 1) * size ≤ length pages → length (part (p * size) size pages) ≡ size
+length-page size p pages h = let s : (p + 1) * size ≡ p * size + size = page-span p size in length-part (p * size) size pages (omega arith)
 
 -- what writing asks for, once the call is not refused
 pub record Fit (list : List ℕ) (lent room size sector : ℕ) : Type 0 where
@@ -96,4 +96,3 @@ fit list lent room size sector z =
       pages = pages-range size lent (not-false (wholePages size lent) (c .0)) .2;
       space = ltb-false room (journalLength sector size (length list)) (d .0);
     }
-

@@ -1,15 +1,15 @@
 -- Laws of the call judged and told.
-use Prim.Native.Nat.{ℕ, zero, suc, _+_, _*_, _-_, _/_, _%_, _^_, _≤_, _<_}
+use Prim.Native.Nat.{ℕ, suc, _+_, _*_, _-_, _/_, _%_, _^_, _≤_, _<_}
 use native.Mathlib.Omega.{arith}
 use mathlib.Core.Path.{_≡_, refl, sym, ap, _∙_}
-use mathlib.Core.Bool.{Bool, true, false, not}
+use mathlib.Core.Bool.{true, false, not}
 use mathlib.Core.List.{List}
 use lib.ListN.{length, take, drop, length-drop}
 use lib.Seq.{take-all}
 use borrow.Author.Tests.{not-false}
 use Rattle.journal.specs.Layout.{isSize, wholePages, isHeader, nonceOf, records}
 use Rattle.journal.specs.Playing.{bodyOf, counted, run, runOf, toRestore, outside, restored}
-use Rattle.journal.specs.Calls.{Outcome, playCode, playCall, settled, Told}
+use Rattle.journal.specs.Calls.{playCode, playCall, Told}
 use Rattle.journal.proofs.Laws.{header-tells}
 use Rattle.journal.proofs.Tells.{refused-by, passed-by, went-by, told-no, size-range}
 use Rattle.journalplay.specs.declared.Looked.{Looked}

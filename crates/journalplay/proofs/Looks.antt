@@ -3,17 +3,16 @@ use Prim.Native.Nat.{ℕ, zero, suc, _+_, _*_, _-_, _/_, _≤_, _<_}
 use native.Mathlib.Omega.{arith}
 use native.Mathlib.Nat.{suc-mul}
 use mathlib.Core.Path.{_≡_, refl, sym, ap, _∙_}
-use mathlib.Core.Bool.{Bool, true, false, cond, _||_}
-use mathlib.Core.List.{List, [], _∷_}
+use mathlib.Core.Bool.{Bool, true, false, _||_}
+use mathlib.Core.List.{List}
 use lib.ListN.{length, take, drop, length-drop, drop-of-length-le}
 use lib.Seq.{drop-drop, drop-length, length-take-le}
-use lib.Dec.{eqb, ltb}
+use lib.Dec.{ltb}
 use borrow.Author.Tests.{lt-ltb, le-ltb, ltb-false, eq-eqb, ne-eqb}
 use Rattle.record.specs.Part.{part}
-use Rattle.journal.specs.Layout.{big, checksum, savedOf, sumOf, records, countOf}
-use Rattle.journal.specs.Playing.{bodyOf, counted, faultOf, Run, goOn, run, isOutside, outside}
+use Rattle.journal.specs.Layout.{big, checksum, sumOf, records, countOf}
+use Rattle.journal.specs.Playing.{bodyOf, counted, faultOf, goOn, run, isOutside, outside}
 use Rattle.journal.proofs.Laws.{big-drop}
-use Rattle.journalplay.specs.declared.Looked.{Looked}
 use Rattle.journalplay.specs.Seen.{Seen}
 
 -- the image of the record at a place, as it is lent

@@ -3,7 +3,7 @@ use Prim.Native.Nat.{ℕ, zero, suc, _+_, _*_, _-_, _/_, _≤_, _<_}
 use native.Mathlib.Omega.{arith}
 use native.Mathlib.Nat.{suc-mul, mul-le-mul-right, div-mul-le-self}
 use mathlib.Core.Path.{_≡_, refl, sym, ap, _∙_}
-use mathlib.Core.Bool.{Bool, true, false, _||_}
+use mathlib.Core.Bool.{false}
 use mathlib.Core.List.{List, _++_}
 use lib.ListN.{length, take, drop, length-drop}
 use lib.Seq.{drop-drop, length-take-le}
@@ -11,7 +11,7 @@ use lib.Dec.{eqb, ltb}
 use borrow.Author.Tests.{ltb-false, eqb-false}
 use Rattle.record.specs.Part.{part, withPart}
 use Rattle.record.proofs.Parts.{length-with}
-use Rattle.journal.specs.Layout.{big, Saved, savedOf, records}
+use Rattle.journal.specs.Layout.{big, savedOf, records}
 use Rattle.journal.specs.Playing.{isOutside, outside, withSaved, restored}
 use Rattle.journal.proofs.Laws.{big-at, copied}
 use Rattle.journal.proofs.Writes.{neither}
@@ -50,7 +50,7 @@ module _ (n at size : ℕ) (body pages : List ℕ) (e : n ≡ big body at) (some
 
   pub written-one : (ys : List ℕ) → at + (size + 8) ≤ length body
       → ys ≡ take (length (take (at + 4 + size - (at + 4)) (drop (at + 4) body))) (take (at + 4 + size - (at + 4)) (drop (at + 4) body))
-          ++ drop (length (take (at + 4 + size - (at + 4)) (drop (at + 4) body))) (take ((n - 1) * size + size - (n - 1) * size) (drop ((n - 1) * size) pages))
+      ++ drop (length (take (at + 4 + size - (at + 4)) (drop (at + 4) body))) (take ((n - 1) * size + size - (n - 1) * size) (drop ((n - 1) * size) pages))
       → withPart ((n - 1) * size) ((n - 1) * size + size - (n - 1) * size) pages ys ≡ withSaved size (savedOf size (drop at body)) pages
   unfolding withSaved
   written-one ys whole q =

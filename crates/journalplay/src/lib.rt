@@ -2,8 +2,8 @@
 // The door asks nothing of its caller.
 mod look;
 mod restore;
+
 ghost use mathlib.Core.Path.{_≡_};
-ghost use lib.ListN.{length};
 ghost use Rattle.journal.specs.Calls.{playCall, Told};
 ghost use Rattle.journalplay.specs.Seen.{Said};
 use journal::Reply;

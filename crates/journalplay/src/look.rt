@@ -3,7 +3,7 @@ ghost use mathlib.Core.Path.{_≡_};
 ghost use mathlib.Core.Bool.{true};
 ghost use Prim.Native.Nat.{_+_, _≤_};
 ghost use lib.ListN.{length, drop};
-ghost use Rattle.journal.specs.Layout.{big, nonceOf, sectorOf};
+ghost use Rattle.journal.specs.Layout.{big, nonceOf};
 ghost use Rattle.journal.specs.Playing.{bodyOf, counted, faultOf, isOutside};
 ghost use Rattle.journalplay.specs.Seen.{Seen};
 use crate::Looked;

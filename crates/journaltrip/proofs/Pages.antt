@@ -1,5 +1,5 @@
 -- Pages written back one by one: each page is the listed one's image, or as it was.
-use Prim.Native.Nat.{ℕ, zero, suc, _+_, _*_, _-_, _/_, _≤_, _<_}
+use Prim.Native.Nat.{ℕ, suc, _+_, _*_, _-_, _≤_, _<_}
 use native.Mathlib.Omega.{arith}
 use native.Mathlib.Nat.{mul-le-mul-right, suc-mul, eq-or-lt-of-le}
 use mathlib.Core.Path.{_≡_, refl, sym, ap, _∙_}
@@ -11,10 +11,10 @@ use lib.Seq.{take-at, drop-drop, length-take-le}
 use lib.Dec.{eqb, ltb}
 use borrow.Author.Tests.{eqb-true, eqb-false, ltb-true, ltb-false}
 use Rattle.record.specs.Part.{part, withPart}
-use Rattle.record.proofs.Parts.{length-part, length-with, part-with, part-front, drop-with}
+use Rattle.record.proofs.Parts.{length-with, part-with, part-front, drop-with}
 use Rattle.journal.specs.Playing.{withSaved, restored}
 use Rattle.journal.specs.Writing.{anyPast, savedPage}
-use Rattle.journal.proofs.Writes.{neither, page-span}
+use Rattle.journal.proofs.Writes.{neither, page-span, length-page}
 use Rattle.journaltrip.specs.Trip.{isListed, BroughtBack}
 
 -- a part before or behind another that was changed
@@ -46,7 +46,7 @@ module _ (size q : ℕ) (pages g : List ℕ) (there : (q + 1) * size ≤ length 
   room = let s : (q + 1) * size ≡ q * size + size = page-span q size in omega arith
 
   image-long : length (part (q * size) size pages) ≡ size
-  image-long = let s : (q + 1) * size ≡ q * size + size = page-span q size in length-part (q * size) size pages (omega arith)
+  image-long = length-page size q pages there
 
   pub long-one : length (withSaved size (savedPage size pages q) g) ≡ length g
   long-one = ap length saved-at ∙ length-with (q * size) size g (part (q * size) size pages) room image-long
@@ -90,7 +90,7 @@ all-back size pages (q ∷ qs) g h a =
     record {
       long = rest .long ∙ one;
       each = λ p.
-      rest .each p
-      ∙ ap (λ (x : List ℕ). cond (isListed p qs) (part (p * size) size pages) x) (each-one size q pages g there fits p)
-      ∙ later (eqb p q) (isListed p qs) (part (p * size) size pages) (part (p * size) size g);
+          rest .each p
+          ∙ ap (λ (x : List ℕ). cond (isListed p qs) (part (p * size) size pages) x) (each-one size q pages g there fits p)
+          ∙ later (eqb p q) (isListed p qs) (part (p * size) size pages) (part (p * size) size g);
     }

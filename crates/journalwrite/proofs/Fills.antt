@@ -1,15 +1,15 @@
 -- Laws of bytes written one behind the other: the header's fields, its zeros, a record.
-use Prim.Native.Nat.{ℕ, zero, suc, _+_, _*_, _-_, _/_, _≤_, _<_}
+use Prim.Native.Nat.{ℕ, _+_, _-_, _≤_}
 use native.Mathlib.Omega.{arith}
 use mathlib.Core.Path.{_≡_, refl, sym, ap, _∙_}
-use mathlib.Core.List.{List, [], _∷_, _++_, append-nil, append-assoc}
-use lib.ListN.{length, take, drop, replicate, length-append, length-drop, length-replicate, drop-of-length-le}
-use lib.Seq.{take-at, drop-at, drop-drop, take-all, length-take-le}
-use Rattle.record.specs.Part.{part, withPart}
+use mathlib.Core.List.{List, _++_, append-assoc}
+use lib.ListN.{length, take, drop, replicate, length-append, length-drop}
+use lib.Seq.{take-at, drop-at, drop-drop, length-take-le}
+use Rattle.record.specs.Part.{withPart}
 use Rattle.record.proofs.Parts.{with-take, with-drop}
 use Rattle.journal.proofs.Laws.{copied}
 use Rattle.journal.proofs.Writes.{length-bytes}
-use Rattle.journal.specs.Layout.{firstBytes, bytesOf, headerBytes, Saved, recordBytes, checksum}
+use Rattle.journal.specs.Layout.{firstBytes, bytesOf, headerBytes, recordBytes, checksum}
 
 -- the bytes ys behind x, which is all that was written so far
 pub behind : (x t t₁ t₂ ys : List ℕ) (a k : ℕ) → length x ≡ a → t₁ ≡ x ++ drop a t → t₂ ≡ withPart a k t₁ ys → t₂ ≡ (x ++ ys) ++ drop (a + k) t

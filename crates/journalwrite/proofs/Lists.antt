@@ -1,22 +1,22 @@
 -- Laws of a list of pages: all of them lent, a record more, the whole journal; and of the call judged and told.
-use Prim.Native.Nat.{ℕ, zero, suc, _+_, _*_, _-_, _/_, _%_, _^_, _≤_, _<_}
+use Prim.Native.Nat.{ℕ, zero, suc, _+_, _*_, _-_, _/_, _^_, _≤_, _<_}
 use native.Mathlib.Omega.{arith}
-use native.Mathlib.Nat.{mul-le-mul, suc-mul, add-mul, one-mul, le-div-iff-mul-le, le-trans}
+use native.Mathlib.Nat.{mul-le-mul, suc-mul}
 use mathlib.Core.Path.{_≡_, refl, sym, ap, _∙_}
-use mathlib.Core.Bool.{Bool, true, false, not, _&&_, _||_}
+use mathlib.Core.Bool.{Bool, true, false, not, _&&_}
 use mathlib.Core.List.{List, [], _∷_, _++_, append-nil, append-assoc, map}
-use lib.ListN.{length, take, drop, getD, replicate, length-append, length-replicate, take-append-drop, drop-of-length-le}
-use lib.Seq.{take-at, drop-at, take-length, drop-cons, length-take-le, drop-append-add, drop-drop}
-use lib.Dec.{eqb, ltb, leb}
+use lib.ListN.{length, take, drop, getD, length-append, take-append-drop, drop-of-length-le}
+use lib.Seq.{take-at, drop-at, take-length, drop-cons, length-take-le, drop-drop}
+use lib.Dec.{leb}
 use borrow.Author.Tests.{lt-ltb, le-ltb, leb-true, not-false, eq-eqb, ne-eqb}
 use Rattle.word.proofs.Tests.{and-both}
-use Rattle.record.specs.Part.{part, withPart}
-use Rattle.record.proofs.Parts.{length-part, length-with}
-use Rattle.journal.specs.Layout.{isSize, isSector, wholePages, firstBytes, bytesOf, headerBytes, Saved, recordBytes, recordsBytes, checksum}
+use Rattle.record.specs.Part.{withPart}
+use Rattle.record.proofs.Parts.{length-with}
+use Rattle.journal.specs.Layout.{isSize, isSector, wholePages, headerBytes, recordBytes, recordsBytes}
 use Rattle.journal.specs.Writing.{anyPast, savedPage, journalLength, journalBytes}
-use Rattle.journal.specs.Calls.{refuseIf, writeCode, writeCall, Told}
-use Rattle.journal.proofs.Tells.{refused-by, passed-by, went-by, told-no, size-range, sector-range, pages-range}
-use Rattle.journal.proofs.Writes.{length-header, length-record, page-span, Fit}
+use Rattle.journal.specs.Calls.{writeCode, writeCall, Told}
+use Rattle.journal.proofs.Tells.{refused-by, passed-by, told-no, size-range, sector-range}
+use Rattle.journal.proofs.Writes.{length-header, length-record, length-page}
 use Rattle.journalwrite.proofs.Fills.{behind}
 
 -- `page_end`: the product fits
@@ -43,7 +43,7 @@ module _ (nonce size : ℕ) (pages : List ℕ) where
   -- one page more
   snoc : (list : List ℕ) (i : ℕ) → i < length list
       → recordsBytes nonce size (map (savedPage size pages) (take (suc i) list))
-          ≡ recordsBytes nonce size (map (savedPage size pages) (take i list)) ++ recordBytes nonce size (savedPage size pages (getD list i 0))
+      ≡ recordsBytes nonce size (map (savedPage size pages) (take i list)) ++ recordBytes nonce size (savedPage size pages (getD list i 0))
   unfolding recordsBytes
   snoc [] i h = absurd (omega arith)
   snoc (p ∷ ps) zero h = append-nil (recordBytes nonce size (savedPage size pages p))
@@ -102,7 +102,7 @@ module _ (nonce size : ℕ) (pages : List ℕ) where
             let r : List ℕ = recordBytes nonce size (savedPage size pages (getD list i 0)) in
             let x : List ℕ = take start t ++ recordsBytes nonce size (map (savedPage size pages) (take i list)) in
             let s : i + 1 ≡ suc i = omega arith in
-            let n : length r ≡ size + 8 = length-record nonce size pages (getD list i 0) k in
+            let n : length r ≡ size + 8 = length-record nonce size (savedPage size pages (getD list i 0)) (length-page size (getD list i 0) pages k) in
             let more : take start t ++ recordsBytes nonce size (map (savedPage size pages) (take (i + 1) list)) ≡ x ++ r =
             rw (s, snoc list i h) (sym (append-assoc (take start t) (recordsBytes nonce size (map (savedPage size pages) (take i list))) r))
             in
@@ -119,19 +119,11 @@ module _ (nonce size : ℕ) (pages : List ℕ) where
 -- `put_page`: the page is lent as a part
 pub page-put : (at p size nonce : ℕ) (pages t t₁ : List ℕ) → (p + 1) * size ≤ length pages
     → t₁ ≡ withPart at (length (take (p * size + size - p * size) (drop (p * size) pages)) + 8) t
-        (recordBytes nonce (length (take (p * size + size - p * size) (drop (p * size) pages))) (record { number = p + 1; image = take (p * size + size - p * size) (drop (p * size) pages) }))
+    (recordBytes nonce (length (take (p * size + size - p * size) (drop (p * size) pages))) (record { number = p + 1; image = take (p * size + size - p * size) (drop (p * size) pages) }))
     → t₁ ≡ withPart at (size + 8) t (recordBytes nonce size (savedPage size pages p))
 page-put at p size nonce pages t t₁ h e =
     let d : p * size + size - p * size ≡ size = omega arith in
-    let s : (p + 1) * size ≡ p * size + size = page-span p size in
-    let n : length (part (p * size) size pages) ≡ size = length-part (p * size) size pages (omega arith) in
-    e ∙ rw d (rw n refl)
-
-pub page-length : (p size : ℕ) (pages : List ℕ) → (p + 1) * size ≤ length pages → length (take (p * size + size - p * size) (drop (p * size) pages)) ≡ size
-page-length p size pages h =
-    let d : p * size + size - p * size ≡ size = omega arith in
-    let s : (p + 1) * size ≡ p * size + size = page-span p size in
-    rw d (length-part (p * size) size pages (omega arith))
+    e ∙ rw d (rw (length-page size p pages h) refl)
 
 -- the whole journal: the header, then the records
 pub all-written : (pages list t t₁ t₂ : List ℕ) (size nonce sector : ℕ) → 28 ≤ sector

@@ -2,8 +2,8 @@
 // The door asks nothing of its caller.
 mod fill;
 mod list;
+
 ghost use mathlib.Core.Path.{_≡_};
-ghost use lib.ListN.{length};
 ghost use Rattle.journal.specs.Calls.{writeCode, writeCall, Told};
 use journal::Reply;
 

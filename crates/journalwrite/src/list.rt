@@ -56,7 +56,14 @@ fn put_records(target: &mut [u8], start: usize, pages: &[u8], list: &[u32], size
 }
 
 // The whole journal.
-pub fn write_all(pages: &[u8], list: &[u32], target: &mut [u8], page_size: u32, nonce: u32, sector: u32)
+pub fn write_all(
+    pages: &[u8],
+    list: &[u32],
+    target: &mut [u8],
+    page_size: u32,
+    nonce: u32,
+    sector: u32,
+)
     requires { ⌜ writeCode (now list) (length (now pages)) (length (now target)) «page_size» sector ≡ 0 ⌝ }
     ensures { λ r. ⌜ now (target .exit) ≡ journalBytes (now (pages .entry)) (now (list .entry)) «page_size» nonce sector ++ drop (journalLength sector «page_size» (length (now (list .entry)))) (now (target .entry)) ⌝ }
 {

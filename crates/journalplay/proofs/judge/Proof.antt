@@ -1,7 +1,7 @@
 -- Each return is the case of `playCode` that its tests pick.
 use native.Mathlib.Omega.{arith}
 use mathlib.Core.Path.{_≡_, sym, ap, _∙_}
-use mathlib.Core.Bool.{true, false, not}
+use mathlib.Core.Bool.{false, not}
 use borrow.Author.Tests.{not-false}
 use denote.Ref.{now}
 use Rattle.journal.specs.Layout.{isSize, wholePages, isHeader}
@@ -29,7 +29,7 @@ refused-requires : tie.Need-refused-requires
 refused-requires c κs = search needs
 
 returns : tie.Need-returns
-returns c = 
+returns c =
     let a = c .before .before .before .before .args in
     said-26 (now (a .journal)) (a .lent) (a .page-size) _ (c .refused .ensures) (ap not (sym (c .before .before .is-size .ensures)) ∙ c .before .if1 .taken)
 
@@ -40,7 +40,7 @@ refused-requires-2 : tie.Need-refused-requires-2
 refused-requires-2 c κs = search needs
 
 returns-2 : tie.Need-returns-2
-returns-2 c = 
+returns-2 c =
     let e = c .before .before .before in
     let a = e .before .before .before .args in
     said-27 (now (a .journal)) (a .lent) (a .page-size) (sized e) _ (c .refused2 .ensures) (ap not (sym (c .before .before .whole-pages .ensures)) ∙ c .before .if2 .taken)
@@ -52,7 +52,7 @@ refused-requires-3 : tie.Need-refused-requires-3
 refused-requires-3 c κs = search needs
 
 returns-3 : tie.Need-returns-3
-returns-3 c = 
+returns-3 c =
     let e = c .before .before .before in
     let f = e .before .before in
     let a = f .before .before .before .args in
@@ -62,7 +62,7 @@ div-look-all : tie.Need-div-look-all
 div-look-all c = omega (arith, size-range _ (not-false _ (sized (c .before .before .before .before))))
 
 look-all-requires : tie.Need-look-all-requires
-look-all-requires c κs = 
+look-all-requires c κs =
     let a = c .before .before .before .before .before .before .before .args in
     (header-tells (a .page-size) (now (a .journal)) (not-false _ (headed c)) .0, size-range _ (not-false _ (sized (c .before .before .before .before))) .1)
 
@@ -70,7 +70,7 @@ refused-requires-4 : tie.Need-refused-requires-4
 refused-requires-4 c κs = search needs
 
 returns-4 : tie.Need-returns-4
-returns-4 c = 
+returns-4 c =
     let h = c .before .before .before in
     let e = h .before .before in
     let f = e .before .before in
@@ -78,7 +78,7 @@ returns-4 c =
     said-30 (now (a .journal)) (a .lent) (a .page-size) (sized f) (paged e) (headed h) _ (c .before .before .look-all .ensures) _ (c .refused4 .ensures) (c .before .if4 .taken)
 
 returns-5 : tie.Need-returns-5
-returns-5 c = 
+returns-5 c =
     let h = c .before .before in
     let e = h .before .before in
     let f = e .before .before in

@@ -9,12 +9,12 @@ judge-requires : tie.Need-judge-requires
 judge-requires c κs = search needs
 
 returns : tie.Need-returns
-returns c = 
+returns c =
     let a = c .before .before .before .before .args in
     play-no (now (a .journal)) (now (a .pages)) (a .page-size) _ (c .before .judge .ensures) (c .if1 .taken)
 
 restore-all-requires : tie.Need-restore-all-requires
-restore-all-requires c κs = 
+restore-all-requires c κs =
     let a = c .before .before .before .before .before .args in
     let w = ready (now (a .journal)) _ (a .page-size) _ (c .before .before .judge .ensures) (c .before .if1 .left) in
     (w .long, w .some, w .room, w .inner)
@@ -26,7 +26,7 @@ same-length : tie.Need-same-length
 same-length c = search needs
 
 returns-2 : tie.Need-returns-2
-returns-2 c = 
+returns-2 c =
     let a = c .before .before .before .before .before .before .before .before .args in
     play-done (now (a .journal)) (now (a .pages)) (a .page-size) _ (c .before .before .before .before .before .judge .ensures) _ (c .before .before .before .before .if1 .left) (c .before .before .restore-all .ensures)
 

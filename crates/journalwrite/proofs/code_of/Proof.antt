@@ -1,8 +1,7 @@
 -- Each return is the case of `writeCode` that its tests pick.
-use Prim.Native.Nat.{_≤_}
 use native.Mathlib.Omega.{arith}
 use mathlib.Core.Path.{_≡_, sym, ap, _∙_}
-use mathlib.Core.Bool.{Bool, true, false, not, _&&_}
+use mathlib.Core.Bool.{false, not, _&&_}
 use lib.ListN.{length}
 use lib.Dec.{leb}
 use denote.Ref.{now}
@@ -27,7 +26,7 @@ any-past-requires : tie.Need-any-past-requires
 any-past-requires c κs = search needs
 
 returns : tie.Need-returns
-returns c = 
+returns c =
     let a = c .before .before .before .args in
     code-20 (now (a .list)) (a .lent) (a .room) (a .page-size) (a .sector) (sym (c .before .any-past .ensures) ∙ c .if1 .taken)
 
@@ -38,7 +37,7 @@ is-sector-requires : tie.Need-is-sector-requires
 is-sector-requires c κs = search needs
 
 returns-2 : tie.Need-returns-2
-returns-2 c = 
+returns-2 c =
     let a = c .before .before .before .before .before .before .args in
     code-26 (now (a .list)) (a .lent) (a .room) (a .page-size) (a .sector) (lent-all (c .before .before .before)) (sym (same-tests _ _ _ _ _ (c .before .before .is-size .ensures) (c .before .is-sector .ensures)) ∙ c .if2 .taken)
 
@@ -46,7 +45,7 @@ whole-pages-requires : tie.Need-whole-pages-requires
 whole-pages-requires c κs = sizes (c .before .before .before .before .before .before .args .page-size) (c .before .before .before .before .before .before .args .sector) (length (now (c .before .before .before .before .before .before .args .list))) (sized c) .0
 
 returns-3 : tie.Need-returns-3
-returns-3 c = 
+returns-3 c =
     let a = c .before .before .before .before .before .before .before .before .args in
     code-27 (now (a .list)) (a .lent) (a .room) (a .page-size) (a .sector) (lent-all (c .before .before .before .before .before)) (sized (c .before .before)) (ap not (sym (c .before .whole-pages .ensures)) ∙ c .if3 .taken)
 
@@ -60,17 +59,17 @@ add-if4-2 : tie.Need-add-if4-2
 add-if4-2 c = omega (arith, sizes (c .before .before .before .before .before .before .before .before .args .page-size) (c .before .before .before .before .before .before .before .before .args .sector) (length (now (c .before .before .before .before .before .before .before .before .args .list))) (sized (c .before .before)) .1)
 
 returns-4 : tie.Need-returns-4
-returns-4 c = 
+returns-4 c =
     let a = c .before .before .before .before .before .before .before .before .before .args in
     code-14 (now (a .list)) (a .lent) (a .room) (a .page-size) (a .sector) (lent-all (c .before .before .before .before .before .before)) (sized (c .before .before .before)) (paged (c .before)) (c .if4 .taken)
 
 returns-5 : tie.Need-returns-5
-returns-5 c = 
+returns-5 c =
     let a = c .before .before .before .before .before .before .before .before .before .before .args in
     code-15 (now (a .list)) (a .lent) (a .room) (a .page-size) (a .sector) (lent-all (c .before .before .before .before .before .before .before)) (sized (c .before .before .before .before)) (paged (c .before .before)) (c .before .if4 .left) (c .if5 .taken)
 
 returns-6 : tie.Need-returns-6
-returns-6 c = 
+returns-6 c =
     let a = c .before .before .before .before .before .before .before .before .before .before .args in
     code-0 (now (a .list)) (a .lent) (a .room) (a .page-size) (a .sector) (lent-all (c .before .before .before .before .before .before .before)) (sized (c .before .before .before .before)) (paged (c .before .before)) (c .before .if4 .left) (c .if5 .left)
 

@@ -12,7 +12,7 @@ code-of-requires : tie.Need-code-of-requires
 code-of-requires c κs = search needs
 
 returns : tie.Need-returns
-returns c = 
+returns c =
     let a = c .before .before .before .before .before .args in
     write-no (now (a .pages)) (now (a .list)) (now (a .target)) (a .page-size) (a .nonce) (a .sector) _ (c .before .code-of .ensures) (c .if1 .taken)
 
@@ -26,7 +26,7 @@ same-length : tie.Need-same-length
 same-length c = search needs
 
 returns-2 : tie.Need-returns-2
-returns-2 c = 
+returns-2 c =
     let a = c .before .before .before .before .before .before .before .before .before .args in
     write-done (now (a .pages)) (now (a .list)) (now (a .target)) (a .page-size) (a .nonce) (a .sector) _ (c .before .before .before .before .before .code-of .ensures) _ (c .before .before .before .before .if1 .left) (c .before .before .write-all .ensures)
 

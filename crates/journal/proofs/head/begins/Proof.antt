@@ -1,11 +1,11 @@
 -- `head::begins` meets its contract: what `same` says of the first eight bytes.
 use Prim.Native.Nat.{ℕ}
-use mathlib.Core.Path.{_≡_, sym, ap, _∙_}
+use mathlib.Core.Path.{sym, ap, _∙_}
 use mathlib.Core.List.{List}
 use lib.ListN.{take}
 use lib.Seq.{length-take-le}
 use denote.Ref.{now}
-use Rattle.journal.specs.Layout.{firstBytes, same}
+use Rattle.journal.specs.Layout.{same}
 use Rattle.journal.proofs.Laws.{same-told}
 use borrow.Author.Needs.{needs}
 use Rattle.journal.proofs.head.begins.Statement.{statement}

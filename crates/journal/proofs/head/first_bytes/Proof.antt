@@ -1,7 +1,6 @@
 -- `head::first_bytes` meets its contract: it is the definition.
 use mathlib.Core.Path.{refl}
 use Rattle.journal.specs.Layout.{firstBytes}
-use borrow.Author.Needs.{needs}
 use Rattle.journal.proofs.head.first_bytes.Statement.{statement}
 use Rattle.journal.proofs.head.first_bytes.Tie as tie
 

@@ -1,9 +1,9 @@
 -- `head::is_header` meets its contract: its tests are the definition's, in their order.
 use Prim.Native.Nat.{ℕ}
-use mathlib.Core.Path.{_≡_, sym, ap, _∙_}
+use mathlib.Core.Path.{ap, _∙_}
 use lib.Dec.{eqb}
 use Rattle.word.proofs.Tests.{so, not-so}
-use Rattle.journal.specs.Layout.{isSector, isHeader}
+use Rattle.journal.specs.Layout.{isSector}
 use Rattle.journal.proofs.Laws.{header-short, header-others, header-sector, header-last}
 use borrow.Author.Needs.{needs}
 use Rattle.journal.proofs.head.is_header.Statement.{statement}

@@ -1,7 +1,6 @@
 -- `head::is_sector` meets its contract: it is the definition.
 use mathlib.Core.Path.{refl}
 use Rattle.journal.specs.Layout.{isSector}
-use borrow.Author.Needs.{needs}
 use Rattle.journal.proofs.head.is_sector.Statement.{statement}
 use Rattle.journal.proofs.head.is_sector.Tie as tie
 

@@ -1,7 +1,6 @@
 -- `head::is_size` meets its contract: it is the definition.
 use mathlib.Core.Path.{refl}
 use Rattle.journal.specs.Layout.{isSize}
-use borrow.Author.Needs.{needs}
 use Rattle.journal.proofs.head.is_size.Statement.{statement}
 use Rattle.journal.proofs.head.is_size.Tie as tie
 

@@ -1,6 +1,6 @@
 -- Past the sector; of a journal that is shorter nothing is left at its end either.
 use Prim.Native.Nat.{ℕ}
-use mathlib.Core.Path.{_≡_, sym, ap, _∙_}
+use mathlib.Core.Path.{ap, _∙_}
 use lib.ListN.{drop}
 use native.Mathlib.Omega.{arith}
 use denote.Ref.{now}
@@ -16,7 +16,7 @@ cast-sector : tie.Need-cast-sector
 cast-sector c = search needs
 
 returns : tie.Need-returns
-returns c = 
+returns c =
     let j = now (c .before .before .before .args .journal) in
     (omega arith, start-short j _ (c .if1 .taken) ∙ ap (λ (n : ℕ). drop n j) (c .before .load .ensures))
 

@@ -38,12 +38,12 @@ load-requires : tie.Need-load-requires
 load-requires c κs = search needs
 
 returns-2 : tie.Need-returns-2
-returns-2 c = 
+returns-2 c =
     let s = c .before .before .before .before .before .before in
     fault-none (s .args .at) (s .args .nonce) (s .args .size) (now (s .args .body)) (s .pre .0) (c .before .before .before .before .if1 .left) _ _ (c .before .load .ensures) (c .before .before .checksum-of .ensures) (c .if2 .taken)
 
 returns-3 : tie.Need-returns-3
-returns-3 c = 
+returns-3 c =
     let s = c .before .before .before .before .before .before in
     fault-sum (s .args .at) (s .args .nonce) (s .args .size) (now (s .args .body)) (s .pre .0) (c .before .before .before .before .if1 .left) _ _ (c .before .load .ensures) (c .before .before .checksum-of .ensures) (c .if2 .left)
 

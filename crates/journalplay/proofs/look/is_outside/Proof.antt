@@ -14,7 +14,7 @@ cast-number : tie.Need-cast-number
 cast-number c = search needs
 
 returns : tie.Need-returns
-returns c = 
+returns c =
     let a = c .before .before .args in
     ap (isOutside (a .pages)) (c .load .ensures ∙ sym (big-at (a .at) (now (a .body))))
 

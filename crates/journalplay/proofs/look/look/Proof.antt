@@ -1,9 +1,7 @@
 -- i records are behind, and what is left of the run is that of the bytes ahead.
 use Prim.Native.Nat.{_-_}
-use native.Mathlib.Omega.{arith}
 use mathlib.Core.Path.{sym, _∙_}
 use denote.Ref.{now}
-use Rattle.journal.specs.Playing.{faultOf}
 use Rattle.journalplay.proofs.Looks.{Ahead, ahead-none, ahead-turn, seen-end, seen-fault, seen-outside, fault-whole}
 use borrow.Author.Needs.{needs}
 use Rattle.journalplay.proofs.look.look.Statement.{statement}
@@ -25,7 +23,7 @@ returns : tie.Need-returns Inv-loop μ-loop
 returns c = seen-fault _ _ _ _ _ _ _ (c .before .before .before .loop .inv) (c .before .before .loop-test .taken) _ (c .before .fault-at .ensures) (c .if1 .taken)
 
 is-outside-requires : tie.Need-is-outside-requires Inv-loop μ-loop
-is-outside-requires c κs = 
+is-outside-requires c κs =
     let s = c .before .before .before .before .before .args in
     let a = c .before .before .before .loop in
     fault-whole (a .at) (s .nonce) (s .size) (now (s .body)) (a .inv .within) (sym (c .before .fault-at .ensures) ∙ c .if1 .left)

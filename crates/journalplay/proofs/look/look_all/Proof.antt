@@ -1,11 +1,11 @@
 -- The records are what is lent from the sector's end on.
 use Prim.Native.Nat.{ℕ}
-use mathlib.Core.Path.{_≡_, sym, ap, _∙_, subst}
+use mathlib.Core.Path.{sym, ap, _∙_, subst}
 use mathlib.Core.List.{List}
 use lib.ListN.{length, length-drop}
 use denote.Ref.{now}
 use Rattle.journal.specs.Layout.{nonceOf}
-use Rattle.journal.specs.Playing.{bodyOf, counted}
+use Rattle.journal.specs.Playing.{bodyOf}
 use Rattle.journalplay.specs.Seen.{Seen}
 use Rattle.journalplay.proofs.Judges.{lent-rest}
 use borrow.Author.Needs.{needs}
@@ -19,7 +19,7 @@ sub-count-of : tie.Need-sub-count-of
 sub-count-of c = search needs
 
 count-of-requires : tie.Need-count-of-requires
-count-of-requires c κs = 
+count-of-requires c κs =
     let s = c .before .before in
     let j = now (s .args .journal) in
     (s .pre .0, s .pre .1, sym (length-drop (c .body-start .result) j) ∙ ap length (c .body-start .ensures .1))
@@ -40,7 +40,7 @@ look-requires : tie.Need-look-requires
 look-requires c κs = search needs
 
 returns : tie.Need-returns
-returns c = 
+returns c =
     let s = c .before .before .before .before .before .before in
     let j = now (s .args .journal) in
     let start = c .before .before .before .before .body-start in

@@ -4,7 +4,6 @@ use lib.ListN.{length}
 use native.Mathlib.Omega.{arith}
 use denote.Ref.{now}
 use Rattle.journalplay.proofs.Restores.{Left, left-all, left-none, left-whole, left-inside, left-turn}
-use borrow.Author.Needs.{needs}
 use Rattle.journalplay.proofs.restore.restore.Statement.{statement}
 use Rattle.journalplay.proofs.restore.restore.Tie as tie
 
@@ -17,14 +16,14 @@ abbrev μ-loop : tie.MeasureT-loop
 -- the record of this turn is whole
 whole : (c : tie.After-slice-known2 Inv-loop μ-loop)
     → c .before .before .before .before .before .loop .at + (c .before .before .before .before .before .before .before .before .args .size + 8)
-        ≤ length (now (c .before .before .before .before .before .before .before .before .args .body))
+    ≤ length (now (c .before .before .before .before .before .before .before .before .args .body))
 whole c = left-whole _ _ _ _ _ _ _ (c .before .before .before .before .before .loop .inv) (c .before .before .before .before .loop-test .taken)
 
 loop-holds : tie.Need-loop-holds Inv-loop μ-loop
 loop-holds c = left-all _ _ _ _ (c .before .before .pre .1) (c .before .before .pre .2)
 
 restore-one-requires : tie.Need-restore-one-requires Inv-loop μ-loop
-restore-one-requires c κs = 
+restore-one-requires c κs =
     let a = c .before .before .loop .inv in
     let h = c .before .loop-test .taken in
     let w = left-inside _ _ _ _ _ _ _ a h in

@@ -29,7 +29,7 @@ part-restore-end : tie.Need-part-restore-end
 part-restore-end c = search needs
 
 restore-requires : tie.Need-restore-requires
-restore-requires c κs = 
+restore-requires c κs =
     let s = c .before .before .before .before .before in
     let a = s .args in
     let e = sym (body (c .before .before)) in
@@ -39,7 +39,7 @@ same-length : tie.Need-same-length
 same-length c = search needs
 
 returns : tie.Need-returns
-returns c = 
+returns c =
     let a = c .before .before .before .before .before .before .before .before .args in
     c .before .before .restore .ensures ∙ ap (λ (l : List ℕ). restored (a .size) (records (a .k) (a .size) l) (now (a .pages))) (body (c .before .before .before .before .before))
 

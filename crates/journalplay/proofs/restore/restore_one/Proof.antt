@@ -60,7 +60,7 @@ same-length : tie.Need-same-length
 same-length c = search needs
 
 returns : tie.Need-returns
-returns c = 
+returns c =
     let s = c .before .before .before .before .before .before .before .before in
     let k = c .before .before .before .before .before .load in
     written-one (k .result) (s .args .at) (s .args .size) (now (s .args .body)) (now (s .args .pages)) (k .ensures) (s .pre .1) (s .pre .2) _ (s .pre .0) (c .before .before .copy .ensures .1)

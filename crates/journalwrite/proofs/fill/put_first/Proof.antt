@@ -1,12 +1,8 @@
 -- The eight bytes lent to `copy` come back as the first bytes.
-use Prim.Native.Nat.{ℕ}
 use native.Mathlib.Omega.{arith}
-use mathlib.Core.Path.{_≡_, sym, ap, _∙_}
-use mathlib.Core.List.{List, _++_}
-use lib.ListN.{length, drop, take}
+use mathlib.Core.Path.{sym}
 use lib.Seq.{length-take-le}
 use denote.Ref.{now}
-use Rattle.journal.specs.Layout.{firstBytes}
 use Rattle.journalwrite.proofs.Fills.{firsts, firsts-fit}
 use borrow.Author.Needs.{needs}
 use Rattle.journalwrite.proofs.fill.put_first.Statement.{statement}

@@ -24,7 +24,7 @@ same-length : tie.Need-same-length
 same-length c = search needs
 
 returns : tie.Need-returns
-returns c = 
+returns c =
     let s = c .before .before .before .before .before .before .before .before .before in
     let a = s .args in
     padded (a .count) (a .nonce) (a .pages) (a .sector) (a .size) (now (a .target)) _ _ (s .pre .0) (s .pre .1) (c .before .before .before .before .before .before .put-fields .ensures) (c .before .before .wipe .ensures)

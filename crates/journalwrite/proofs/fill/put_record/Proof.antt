@@ -37,7 +37,7 @@ same-length : tie.Need-same-length
 same-length c = search needs
 
 returns : tie.Need-returns
-returns c = 
+returns c =
     let s = c .before .before .before .before .before .before .before .before .before .before .before .before .before .before .before in
     let a = s .args in
     record-put (a .at) (a .number) (a .nonce) (c .before .before .before .checksum-of .result) (now (a .page)) (now (a .target)) _ _ _ _ (s .pre) (c .before .before .before .before .before .before .before .before .before .before .before .store .ensures) (c .before .before .before .before .before .before .before .copy .ensures .1) refl (c .before .before .before .checksum-of .ensures) (c .before .before .store2 .ensures)

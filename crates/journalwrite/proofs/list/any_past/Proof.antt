@@ -1,7 +1,7 @@
 -- The pages passed are lent, so the answer is that of the pages ahead.
-use Prim.Native.Nat.{_+_, _*_, _-_, _≤_, _<_}
+use Prim.Native.Nat.{_-_, _≤_}
 use native.Mathlib.Omega.{arith}
-use mathlib.Core.Path.{_≡_, refl, sym, _∙_, subst}
+use mathlib.Core.Path.{_≡_, refl, sym, _∙_}
 use lib.ListN.{length, drop}
 use denote.Ref.{now}
 use Rattle.journal.specs.Writing.{anyPast}
@@ -29,7 +29,7 @@ page-end-requires : tie.Need-page-end-requires Inv-loop μ-loop
 page-end-requires c κs = search needs
 
 returns : tie.Need-returns Inv-loop μ-loop
-returns c = 
+returns c =
     let a = c .before .before .before .before .before .before .args in
     past-hit (a .lent) (a .size) (now (a .list)) (c .before .before .before .before .loop .i) (c .before .before .before .loop-test .taken) (omega (arith, c .before .page-end .ensures, c .if1 .taken)) ∙ c .before .before .before .before .loop .inv .1
 
@@ -40,12 +40,12 @@ loop-less : tie.Need-loop-less Inv-loop μ-loop
 loop-less c = search needs
 
 loop-again : tie.Need-loop-again Inv-loop μ-loop
-loop-again c = 
+loop-again c =
     let a = c .before .before .before .before .before .before .args in
     (search needs, past-turn (a .lent) (a .size) (now (a .list)) (c .before .before .before .before .loop .i) (c .before .before .before .loop-test .taken) (omega (arith, c .before .page-end .ensures, c .if1 .left)) ∙ c .before .before .before .before .loop .inv .1)
 
 returns-2 : tie.Need-returns-2 Inv-loop μ-loop
-returns-2 c = 
+returns-2 c =
     let a = c .before .before .before .args in
     sym (past-end (a .lent) (a .size) (now (a .list)) (c .before .loop .i) (c .loop-test .left)) ∙ c .before .loop .inv .1
 

@@ -1,7 +1,6 @@
 -- The page is lent as it lies.
-use native.Mathlib.Omega.{arith}
 use denote.Ref.{now}
-use Rattle.journalwrite.proofs.Lists.{page-put, page-length}
+use Rattle.journalwrite.proofs.Lists.{page-put}
 use borrow.Author.Needs.{needs}
 use Rattle.journalwrite.proofs.list.put_page.Statement.{statement}
 use Rattle.journalwrite.proofs.list.put_page.Tie as tie
@@ -31,7 +30,7 @@ same-length : tie.Need-same-length
 same-length c = search needs
 
 returns : tie.Need-returns
-returns c = 
+returns c =
     let s = c .before .before .before .before .before .before .before in
     let a = s .args in
     page-put (a .at) (a .p) (a .size) (a .nonce) (now (a .pages)) (now (a .target)) _ (s .pre .3) (c .before .before .put-record .ensures)

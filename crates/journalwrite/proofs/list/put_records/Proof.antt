@@ -1,7 +1,7 @@
 -- i records are written, each behind the one before it.
-use Prim.Native.Nat.{_+_, _*_, _-_, _≤_}
+use Prim.Native.Nat.{_+_, _-_, _≤_}
 use native.Mathlib.Omega.{arith}
-use lib.ListN.{length, getD}
+use lib.ListN.{length}
 use denote.Ref.{now}
 use Rattle.journal.proofs.Writes.{listed, page-small}
 use Rattle.journalwrite.proofs.Lists.{Wrote, wrote-none, wrote-all, wrote-room, wrote-turn}
@@ -24,7 +24,7 @@ room c =
     wrote-room (a .nonce) (a .size) (now (a .pages)) (a .start) (now (a .list)) (now (a .target)) (s .pre .0) (l .i) (l .at) (l .target) (l .inv) (c .before .before .before .before .before .loop-test .taken)
 
 loop-holds : tie.Need-loop-holds Inv-loop μ-loop
-loop-holds c = 
+loop-holds c =
     let s = c .before .before .before in
     wrote-none (s .args .nonce) (s .args .size) (now (s .args .pages)) (s .args .start) (now (s .args .list)) (now (s .args .target)) (s .pre .0)
 
@@ -35,7 +35,7 @@ shared-slice-read-put-page : tie.Need-shared-slice-read-put-page Inv-loop μ-loo
 shared-slice-read-put-page c = search needs
 
 put-page-requires : tie.Need-put-page-requires Inv-loop μ-loop
-put-page-requires c κs = 
+put-page-requires c κs =
     let s = c .before .before .before .before .before .before .before in
     let a = s .args in
     let l = c .before .before .before .loop in
@@ -56,7 +56,7 @@ loop-less : tie.Need-loop-less Inv-loop μ-loop
 loop-less c = omega arith
 
 loop-again : tie.Need-loop-again Inv-loop μ-loop
-loop-again c = 
+loop-again c =
     let s = c .before .before .before .before .before .before .before .before .before .before in
     let a = s .args in
     let l = c .before .before .before .before .before .before .loop in
@@ -67,7 +67,7 @@ same-length : tie.Need-same-length Inv-loop μ-loop
 same-length c = c .before .loop .inv .long
 
 returns : tie.Need-returns Inv-loop μ-loop
-returns c = 
+returns c =
     let s = c .before .before .before .before .before in
     let a = s .args in
     let l = c .before .loop in

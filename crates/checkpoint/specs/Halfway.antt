@@ -6,7 +6,7 @@ use Rattle.rules.specs.Shape.{Shaped}
 use Rattle.rules.specs.Steps.{afterPages}
 
 -- s is what the first j compactions leave of o, and these are their counts
-pub record After (minDel maxAge : ℕ) (o s : Lent) (reads writes j : ℕ) : Type 0 where
+pub record Halfway (minDel maxAge : ℕ) (o s : Lent) (reads writes j : ℕ) : Type 0 where
   pub within : j ≤ pagesOf o
   pub state : s ≡ afterPages minDel maxAge j o .lent
   pub read : reads ≡ afterPages minDel maxAge j o .reads

@@ -1,18 +1,17 @@
 -- A journal that was written, read back: its header's fields, and its records.
-use Prim.Native.Nat.{ℕ, zero, suc, _+_, _*_, _-_, _/_, _≤_, _<_}
+use Prim.Native.Nat.{ℕ, suc, _+_, _≤_, _<_}
 use native.Mathlib.Omega.{arith}
 use mathlib.Core.Path.{_≡_, refl, sym, ap, _∙_}
-use mathlib.Core.Bool.{Bool, true, false, cond, _&&_}
+use mathlib.Core.Bool.{true}
 use mathlib.Core.List.{List, [], _∷_, _++_, append-assoc}
 use lib.ListN.{length, take, drop, length-append}
 use lib.Seq.{take-at, drop-at}
-use lib.Dec.{eqb, ltb, leb}
-use borrow.Author.Tests.{eq-eqb, ne-eqb, le-ltb, le-leb}
+use borrow.Author.Tests.{eq-eqb, le-ltb, le-leb}
 use Rattle.record.specs.Part.{part}
 use Rattle.journal.specs.Layout.{big, bytesOf, firstBytes, countOf, nonceOf, sectorOf, sizeOf, isSector, same, isHeader, checksum, Saved, savedOf, sumOf, records, recordBytes, recordsBytes, headerBytes}
-use Rattle.journal.specs.Playing.{counted, faultOf, Run, run}
+use Rattle.journal.specs.Playing.{faultOf, Run, run}
 use Rattle.journal.proofs.Laws.{big-front, big-drop}
-use Rattle.journal.proofs.Writes.{length-bytes, length-header}
+use Rattle.journal.proofs.Writes.{length-bytes, length-header, length-record}
 
 -- the header's fields
 module _ (count nonce pages sector size : ℕ) (l : List ℕ) where
@@ -81,13 +80,7 @@ module _ (nonce size : ℕ) (r : Saved) (rest : List ℕ) (long : length (r .ima
       ∙ big-front sum rest sum-small
 
   long-record : length (recordBytes nonce size r) ≡ size + 8
-  unfolding recordBytes
-  long-record =
-      let a : length (bytesOf (r .number) ++ (r .image ++ bytesOf sum)) ≡ length (bytesOf (r .number)) + length (r .image ++ bytesOf sum) = length-append (bytesOf (r .number)) (r .image ++ bytesOf sum) in
-      let b : length (r .image ++ bytesOf sum) ≡ length (r .image) + length (bytesOf sum) = length-append (r .image) (bytesOf sum) in
-      let c₁ : length (bytesOf (r .number)) ≡ 4 = length-bytes (r .number) in
-      let c₂ : length (bytesOf sum) ≡ 4 = length-bytes sum in
-      omega arith
+  long-record = length-record nonce size r long
 
   pub reads-next : drop (size + 8) (recordBytes nonce size r ++ rest) ≡ rest
   reads-next = drop-at (recordBytes nonce size r) rest (size + 8) long-record
