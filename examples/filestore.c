@@ -1015,12 +1015,15 @@ static bool make_journal(struct filestore *f)
 /* All is known to be right: F takes in what the journal holds, and a new generation begins. */
 static bool take_over(struct filestore *f)
 {
+    uint32_t held = f->records;
     if (!sync_folder(f->path)) /* a name that can be seen may be one that is not there for good */
         return refuse_by_system(f, "the folder");
     if (!rewrite_unsynced(f))
         return refuse_by_system(f, "the files");
     if (!come_to_rest(f))
         return refuse_by_system(f, "the file");
+    if (f->talk && held > 0)
+        fprintf(f->talk, "  (the journal held %" PRIu32 " records; the file has taken them in)\n", held);
     if (f->journal < 0 && !make_journal(f))
         return refuse_by_system(f, "a new journal");
     return new_generation(f) || refuse_by_system(f, "a new generation");
