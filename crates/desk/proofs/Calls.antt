@@ -12,13 +12,14 @@ use Rattle.rules.proofs.Every.{meet}
 use Rattle.word.proofs.Tests.{and-both, among-four}
 use Rattle.record.specs.Rows.{keep, any}
 use Rattle.record.specs.Record.{committedOn}
-use Rattle.apply.proofs.Laws.{length-applied}
+use Rattle.record.proofs.Changes.{length-applied}
 use Rattle.rules.specs.declared.Refusal.{Refusal}
 use Rattle.rules.specs.declared.Refusal.the-variants.{NotSound, Argument, ShortBuffer, NotLive, Live, Held, OnlineFull, LogFull, NumbersEnd, NoFrame}
 use Rattle.rules.specs.Answers.{codeOf}
-use Rattle.rules.specs.Lent.{Lent, sizeOf, pagesOf, framesOf, roomOf, spanOf, onlineOf, pageIn}
+use Rattle.rules.specs.Lent.{Lent, paramsOf, sizeOf, pagesOf, framesOf, onlineSizeOf, logSizeOf, onlineOf, pageIn}
 use Rattle.rules.specs.Sound.{every, isPageSize, inRange, s1-parameters, s2-lengths, s3-logged, s16-logged, s18-first, s15-stamps, s17-s19-dirty, s7-log-records, s14-log-zero, soundDurable, sound}
-use Rattle.sound.proofs.Laws.{sound-durable, sound-shaped}
+use Rattle.rules.proofs.Clauses.{sound-durable}
+use Rattle.sound.proofs.Laws.{sound-shaped}
 use Rattle.readback.proofs.Pages.{page-length}
 use Rattle.wal.specs.Layout as wal
 use Rattle.wal.specs.Written.{written}
@@ -79,7 +80,7 @@ page-size : (s : Lent) → sound s ≡ true → wal.isPageSize (sizeOf s) ≡ tr
 unfolding soundDurable s1-parameters inRange isPageSize wal.isPageSize
 page-size s e =
     let n = first-of-nine (s1-parameters s) (s2-lengths s) (s3-logged s) (s16-logged s) (s18-first s) (s15-stamps s) (s17-s19-dirty s) (s7-log-records s) (s14-log-zero s) (sound-durable s e) in
-    let r = and-both (eqb (length (s .durable .fixed)) 20) (inRange (sizeOf s) (pagesOf s) (framesOf s) (roomOf s) (spanOf s)) n .1 in
+    let r = and-both (eqb (length (s .durable .fixed)) 20) (inRange (paramsOf s)) n .1 in
     among-four (λ (z : ℕ). wal.isPageSize z ≡ true) (sizeOf s) 512 1024 2048 4096 (first-of-five (isPageSize (sizeOf s)) _ _ _ _ r) refl refl refl refl
 
 -- an image is as long as a page
