@@ -1,6 +1,6 @@
 //! The proved store behind its C interface. The declarations are those of include/ventarico.h, one for one.
 //!
-//! Here and in fence.rs alone is `unsafe`. What a caller owes the store is said there: each pointer valid for its
+//! Here, in layouts_archive.rs, bench_wal.rs and fence.rs alone is `unsafe`. What a caller owes the store is said there: each pointer valid for its
 //! length, no overlap. Both hold here because every area is a buffer of its own (areas.rs), borrowed for the call.
 //! The guard bytes around each buffer are looked at after the call by whoever made it.
 

@@ -203,6 +203,32 @@ fn each_call_on_empty(sizes: Sizes) -> Vec<Situation> {
     ]
 }
 
+/// A page with as many records as there can be, dropped and read again: they are all applied. One kind and length a
+/// store, then all of them by chance.
+pub fn rebuilds() -> Vec<Situation> {
+    let mut all = Vec::new();
+    for (kind, verb) in [(SET, "sets"), (ADD, "adds")] {
+        for length in [1, 2, 4, 8] {
+            all.push(rebuilt(&format!("512 {verb} of {length}"), |_| (kind, length)));
+        }
+    }
+    all.push(rebuilt("512 of either, each length", |chance| (chance.pick(&[SET, ADD]), chance.pick(&[1, 2, 4, 8]))));
+    all
+}
+
+/// Page 0 has 512 committed records of the kinds and lengths that are given, and is in no frame.
+fn rebuilt(name: &str, each: impl Fn(&mut Random) -> (u8, u32)) -> Situation {
+    let mut base = Maker::new(LARGEST);
+    let mut chance = Random::new(2);
+    base.begin([GONE, WITH_NONE]);
+    for i in 0..LARGEST.online_size {
+        let (kind, length) = each(&mut chance);
+        base.make(&[Call::Update { number: GONE, page: 0, offset: 8 * i, length, kind: kind.into(), value: 3 }]);
+    }
+    base.make(&[Call::Commit { number: GONE }, Call::Evict { page: 0 }]);
+    base.at(name, read(0), DONE)
+}
+
 /// What the online table holds while it grows.
 #[derive(Clone, Copy, PartialEq, Eq)]
 pub enum Shape {

@@ -2,9 +2,11 @@
 //! release. How a call is measured is in bench.rs, on which stores in bench_stores.rs.
 
 use crate::bench::{clock, in_turn, measure, micros, Cost, Middle, Rounds, Stores, Trial};
-use crate::bench_stores::{log_growth, online_growth, Shape, Situation, STORES};
+use crate::bench_stores::{log_growth, online_growth, rebuilds, Shape, Situation, STORES};
+use crate::bench_wal;
 use crate::calls::Store;
 use crate::flash;
+use crate::layouts;
 use crate::ledger::{transactions, Layout, Ledger, FRAMES, KS, LAYOUTS, POLICY, SPREAD, TRANSACTIONS};
 use crate::plot::{svg, Line, Panel};
 use crate::progress::Progress;
@@ -87,6 +89,23 @@ impl<S: Store + Clone> Bench<S> {
         Ok(text)
     }
 
+    /// A read of an evicted page with 512 records: the check, the stored page, and every record applied in its place.
+    pub fn rebuild(&mut self) -> Result<String, String> {
+        let mut text =
+            "| Records | Archive, µs | Twin, µs | Ratio | Middle half |\n|---|---|---|---|---|\n".to_string();
+        let situations = rebuilds();
+        let mut rounds = vec![Rounds::new(); situations.len()];
+        for _ in 0..PASSES {
+            for (situation, rounds) in situations.iter().zip(&mut rounds) {
+                rounds.extend(self.rounds(&[situation], ROUNDS / PASSES)?.remove(0));
+            }
+        }
+        for (situation, rounds) in situations.iter().zip(&rounds) {
+            text += &row(&situation.name, &Cost::of(rounds));
+        }
+        Ok(text)
+    }
+
     /// The same calls at several sizes.
     fn grown(&mut self, title: &str, sizes: [u32; 4], make: impl Fn(u32) -> Vec<Situation>) -> Result<Growth, String> {
         let made = sizes.map(make);
@@ -151,6 +170,7 @@ impl<S: Store + Clone> Bench<S> {
             situations.extend(ONLINE_SIZES.iter().flat_map(|&size| online_growth(shape, size)));
         }
         situations.extend(LOG_SIZES.iter().flat_map(|&size| log_growth(size)));
+        situations.extend(rebuilds());
         for situation in &situations {
             let mut stores: Stores = [&mut self.store, &mut Twin];
             judge(Trial::new(situation, &mut stores).map(|trial| drop(measure(&mut [trial], &mut stores, 1, 0.0))));
@@ -162,6 +182,7 @@ impl<S: Store + Clone> Bench<S> {
             two.run_all(&some);
             judge(same(&one, &two, k));
         }
+        judge(bench_wal::check(layouts::log_writer()));
         (passed, wrong)
     }
 }
@@ -192,11 +213,13 @@ pub fn command<S: Store + Clone>(store: &S, linked: bool, words: &[String]) -> O
         }
         ["calls"] => bench.calls(),
         ["ledger"] => bench.ledger(),
+        ["rebuild"] => bench.rebuild(),
         ["growth"] => bench.growth().map(|(text, _)| text),
         ["growth", file] => bench.growth().and_then(|(text, panels)| {
             write(file, &svg(&panels, 2, "across: rows in the table"))?;
             Ok(text)
         }),
+        ["wal"] => bench_wal::table(layouts::log_writer()),
         ["flash"] => Ok(flash::tables(store)),
         ["flash", file] => {
             write(file, &svg(&flash::panels(store), 3, "across: frames; k = 4")).map(|()| flash::tables(store))

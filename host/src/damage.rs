@@ -638,6 +638,75 @@ pub fn catches<S: Store + Clone>(store: &S, clause: Clause, seed: u64) -> bool {
     run.failed > 0
 }
 
+/// A store with one clause broken: for tests of what is said about it.
+#[cfg(test)]
+pub struct Specimen {
+    pub clause: Clause,
+    pub name: String,
+    /// Whether the durable part alone shows it.
+    pub durable: bool,
+    pub areas: Areas,
+}
+
+/// A store for each wound, and for each kind of wrong size and length.
+#[cfg(test)]
+pub fn specimens(seed: u64) -> Vec<Specimen> {
+    let mut random = Random::new(seed);
+    let stores = sound_stores(&mut random, 200);
+    let mut found = Vec::new();
+    for wound in WOUNDS {
+        let areas = stores.iter().find_map(|store| {
+            let mut a = store.clone();
+            let struck = (wound.strike)(&mut a, &mut random);
+            (struck && sound::broken(&a) == Clauses::only(wound.clause)).then_some(a)
+        });
+        let areas = areas.unwrap_or_else(|| panic!("no store has a place for {}", wound.name));
+        found.push(Specimen { clause: wound.clause, name: wound.name.into(), durable: wound.durable, areas });
+    }
+    for field in 0..5 {
+        let mut areas = stores[0].clone();
+        put4(&mut areas.fixed, 4 * field, 5000);
+        found.push(Specimen { clause: Clause::Params, name: format!("field {field} is 5000"), durable: true, areas });
+    }
+    for area in 1..7 {
+        let mut areas = stores[0].clone();
+        let length = areas.each()[area].len();
+        areas.each_mut()[area].set_length(length - 1);
+        let name = format!("{} a byte short", AREA_NAMES[area]);
+        found.push(Specimen { clause: Clause::Lengths, name, durable: true, areas });
+    }
+    found
+}
+
+/// Stores with several wounds and with random bytes changed, sound or not.
+#[cfg(test)]
+pub fn ruins(seed: u64, count: usize) -> Vec<(Areas, String)> {
+    let mut random = Random::new(seed);
+    let stores = sound_stores(&mut random, 200);
+    let mut found = Vec::new();
+    while found.len() < count {
+        let mut a = stores[random.below(stores.len() as u32) as usize].clone();
+        let mut names = Vec::new();
+        for _ in 0..random.between(0, 3) {
+            let counted = a.online_count() <= a.sizes().online_size
+                && a.logged() <= a.sizes().log_size
+                && a.in_use() <= a.sizes().frames;
+            let wound = &WOUNDS[random.below(WOUNDS.len() as u32) as usize];
+            if counted && (wound.strike)(&mut a, &mut random) {
+                names.push(wound.name);
+            }
+        }
+        for _ in 0..random.between(0, 3) {
+            let area = random.pick(&[0, 1, 1, 2, 4, 4, 5, 5]);
+            let bytes = &mut a.each_mut()[area][..];
+            let at = random.below(bytes.len() as u32) as usize;
+            bytes[at] = random.next() as u8;
+        }
+        found.push((a, names.join(" and ")));
+    }
+    found
+}
+
 /// Strikes stores until so many have just this one clause broken. Gives how many there were.
 fn strike<S: Store>(run: &mut Run<S>, wound: &Wound, stores: &[Areas], wanted: u64) -> u64 {
     let mut hits = 0;

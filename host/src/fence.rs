@@ -7,7 +7,7 @@
 
 use crate::areas::{Areas, Lent, Reply, Sizes, AREA_NAMES};
 use crate::calls::{Call, Store};
-use std::cell::Cell;
+use std::cell::RefCell;
 
 /// A slice as C sees it.
 pub type Slice = (*mut u8, usize);
@@ -23,6 +23,8 @@ const MAY_NOTHING: i32 = 0;
 const MAY_READ: i32 = 1;
 const MAY_READ_AND_WRITE: i32 = 3;
 const PRIVATE_AND_OF_NO_FILE: i32 = 0x22;
+/// No memory is set aside before it is written.
+const NOT_RESERVED: i32 = 0x4000;
 const SEGMENTATION_FAULT: i32 = 11;
 const BUS_ERROR: i32 = 7;
 /// The handler is told the address.
@@ -51,43 +53,102 @@ pub enum Side {
     Before,
 }
 
-/// A store that is called on slices between fences: the seven areas, then read's buffer.
-#[derive(Clone, Copy)]
-pub struct Fenced {
-    /// Where the rooms begin. They are never given back: a run makes few of them.
-    rooms: [*mut u8; 8],
+/// A slice to lend between fences, by its name.
+pub enum Piece<'a> {
+    /// Lent as const: a write to it dies.
+    Read(&'static str, &'a [u8]),
+    Write(&'static str, &'a mut [u8]),
+}
+
+impl Piece<'_> {
+    fn name(&self) -> &'static str {
+        match self {
+            Piece::Read(name, _) | Piece::Write(name, _) => name,
+        }
+    }
+
+    fn bytes(&self) -> &[u8] {
+        match self {
+            Piece::Read(_, bytes) => bytes,
+            Piece::Write(_, bytes) => bytes,
+        }
+    }
+}
+
+/// Rooms for the slices of a call. They are never given back: a run makes few of them.
+#[derive(Clone)]
+pub struct Rooms {
+    starts: Vec<*mut u8>,
     side: Side,
-    called: fn(&Call, [Slice; 8]) -> Reply,
-    /// Which of the seven areas the call is lent for writing.
-    writes: fn(&Call) -> [bool; 7],
 }
 
 /// The call between fences, for the line that is printed if it dies.
-#[derive(Clone, Copy)]
 struct UnderWay {
-    call: Call,
-    slices: [Slice; 8],
+    call: String,
+    slices: Vec<(&'static str, Slice)>,
 }
 
 thread_local! {
-    static UNDER_WAY: Cell<Option<UnderWay>> = const { Cell::new(None) };
+    static UNDER_WAY: RefCell<Option<UnderWay>> = const { RefCell::new(None) };
 }
 
-impl Fenced {
-    pub fn new(side: Side, called: fn(&Call, [Slice; 8]) -> Reply, writes: fn(&Call) -> [bool; 7]) -> Fenced {
+impl Rooms {
+    pub fn new(side: Side, count: usize) -> Rooms {
         let on = OnSignal { handler: died, mask: [0; 16], flags: WITH_INFO, restorer: 0 };
         for signal in [SEGMENTATION_FAULT, BUS_ERROR] {
             // Safe: the struct is the C library's, and the handler only prints and ends the process.
             unsafe { sigaction(signal, &on, std::ptr::null_mut()) };
         }
-        Fenced { rooms: [0; 8].map(|_| new_room()), side, called, writes }
+        Rooms { starts: (0..count).map(|_| new_room()).collect(), side }
     }
 
     fn place(&self, i: usize, length: usize) -> Slice {
         assert!(length <= ROOM, "a slice of {length} bytes has no room: make fence::ROOM larger");
         let skip = if self.side == Side::Behind { ROOM - length } else { 0 };
         // Safe: within the room, by the assertion.
-        (unsafe { self.rooms[i].add(skip) }, length)
+        (unsafe { self.starts[i].add(skip) }, length)
+    }
+
+    /// Makes the call on the pieces, each in its room, and brings back what it wrote. An empty piece is NULL.
+    pub fn call<R>(&self, said: String, pieces: &mut [Piece], called: impl FnOnce(&[Slice]) -> R) -> R {
+        let mut slices = vec![(std::ptr::null_mut(), 0); pieces.len()];
+        for (i, piece) in pieces.iter().enumerate().filter(|(_, piece)| !piece.bytes().is_empty()) {
+            slices[i] = self.place(i, piece.bytes().len());
+            // Safe: the room is open, its bytes are nobody else's.
+            unsafe { std::slice::from_raw_parts_mut(slices[i].0, slices[i].1) }.copy_from_slice(piece.bytes());
+            if matches!(piece, Piece::Read(..)) {
+                allow(slices[i], MAY_READ);
+            }
+        }
+        let named = pieces.iter().map(Piece::name).zip(slices.iter().copied()).collect();
+        UNDER_WAY.set(Some(UnderWay { call: said, slices: named }));
+        let reply = called(&slices);
+        UNDER_WAY.set(None);
+        for (piece, &slice) in pieces.iter_mut().zip(&slices).filter(|(_, slice)| slice.1 > 0) {
+            match piece {
+                Piece::Read(..) => allow(slice, MAY_READ_AND_WRITE),
+                // Safe: as above, and the call has returned.
+                Piece::Write(_, bytes) => {
+                    bytes.copy_from_slice(unsafe { std::slice::from_raw_parts(slice.0, slice.1) })
+                }
+            }
+        }
+        reply
+    }
+}
+
+/// A store that is called on slices between fences: the seven areas, then read's buffer.
+#[derive(Clone)]
+pub struct Fenced {
+    rooms: Rooms,
+    called: fn(&Call, [Slice; 8]) -> Reply,
+    /// Which of the seven areas the call is lent for writing.
+    writes: fn(&Call) -> [bool; 7],
+}
+
+impl Fenced {
+    pub fn new(side: Side, called: fn(&Call, [Slice; 8]) -> Reply, writes: fn(&Call) -> [bool; 7]) -> Fenced {
+        Fenced { rooms: Rooms::new(side, 8), called, writes }
     }
 }
 
@@ -103,6 +164,23 @@ fn new_room() -> *mut u8 {
     }
 }
 
+/// That many zero bytes, more than there may be memory for: only those that are written take some. None where the system
+/// has no room for the addresses. They are never given back.
+pub fn vast(length: usize) -> Option<&'static mut [u8]> {
+    let flags = PRIVATE_AND_OF_NO_FILE | NOT_RESERVED;
+    // Safe: new memory at no place that is asked for, open as a whole.
+    unsafe {
+        let start = mmap(std::ptr::null_mut(), length, MAY_READ_AND_WRITE, flags, -1, 0);
+        (start as isize != -1).then(|| std::slice::from_raw_parts_mut(start, length))
+    }
+}
+
+/// The same for numbers, all of them 0.
+pub fn vast_list(length: usize) -> Option<&'static [u32]> {
+    // Safe: the bytes are zero, nobody else's, and aligned to a page.
+    vast(4 * length).map(|bytes| unsafe { std::slice::from_raw_parts(bytes.as_ptr().cast(), length) })
+}
+
 /// Allows so much of the pages on which the slice stands.
 fn allow(slice: Slice, may: i32) {
     let from = slice.0 as usize / PAGE * PAGE;
@@ -115,28 +193,13 @@ fn allow(slice: Slice, may: i32) {
 impl Store for Fenced {
     fn call(&mut self, areas: &mut Areas, call: &Call, buffer: &mut Lent) -> Reply {
         let writes = (self.writes)(call);
-        let [fixed, marks, log, stored, tables, online, pool] = areas.each_mut();
-        let mut lent = [fixed, marks, log, stored, tables, online, pool, buffer];
-        let mut slices = [(std::ptr::null_mut(), 0); 8];
-        for (i, bytes) in lent.iter().enumerate().filter(|(_, bytes)| !bytes.is_empty()) {
-            slices[i] = self.place(i, bytes.len());
-            // Safe: the room is open, its bytes are nobody else's.
-            unsafe { std::slice::from_raw_parts_mut(slices[i].0, slices[i].1) }.copy_from_slice(bytes);
-        }
-        let only_read = |i: usize| i < 7 && !writes[i] && slices[i].1 > 0;
-        (0..8).filter(|&i| only_read(i)).for_each(|i| allow(slices[i], MAY_READ));
-        UNDER_WAY.set(Some(UnderWay { call: *call, slices }));
-        let reply = (self.called)(call, slices);
-        UNDER_WAY.set(None);
-        for (i, bytes) in lent.iter_mut().enumerate().filter(|(_, bytes)| !bytes.is_empty()) {
-            if only_read(i) {
-                allow(slices[i], MAY_READ_AND_WRITE);
-            } else {
-                // Safe: as above, and the call has returned.
-                bytes.copy_from_slice(unsafe { std::slice::from_raw_parts(slices[i].0, slices[i].1) });
-            }
-        }
-        reply
+        let areas = areas.each_mut().into_iter().zip(AREA_NAMES).zip(writes);
+        let mut pieces: Vec<Piece> = areas
+            .map(|((area, name), writes)| if writes { Piece::Write(name, area) } else { Piece::Read(name, area) })
+            .collect();
+        pieces.push(Piece::Write("the buffer", buffer));
+        let called = |slices: &[Slice]| (self.called)(call, slices.try_into().expect("eight slices"));
+        self.rooms.call(call.to_string(), &mut pieces, called)
     }
 }
 
@@ -144,10 +207,10 @@ impl Store for Fenced {
 extern "C" fn died(_: i32, info: *const u8, _: *const u8) {
     // Safe: the kernel hands over a struct in which the address stands there.
     let at = unsafe { info.add(ADDRESS_AT).cast::<usize>().read() };
-    match UNDER_WAY.get() {
+    UNDER_WAY.with_borrow(|under_way| match under_way {
         Some(under_way) => println!("  FAILED  {}: {}", under_way.call, strayed(at, &under_way.slices)),
         None => println!("  FAILED  this program touched address {at:#x}, between two calls"),
-    }
+    });
     println!("  next: the seeds above make the same run again; under gdb it stops at the instruction that strayed");
     println!("0 passed, 1 failed");
     // Safe: it does not return.
@@ -155,18 +218,17 @@ extern "C" fn died(_: i32, info: *const u8, _: *const u8) {
 }
 
 /// Where a touched address lies, in words.
-fn strayed(at: usize, slices: &[Slice; 8]) -> String {
-    for (i, &(start, length)) in slices.iter().enumerate().filter(|(_, slice)| slice.1 > 0) {
+fn strayed(at: usize, slices: &[(&'static str, Slice)]) -> String {
+    for &(name, (start, length)) in slices.iter().filter(|(_, slice)| slice.1 > 0) {
         let byte = at as isize - start as isize;
         if (-(FENCE as isize)..(length + FENCE) as isize).contains(&byte) {
-            return touched(i, byte, length);
+            return touched(name, byte, length);
         }
     }
     format!("address {at:#x} was touched, near no slice")
 }
 
-fn touched(i: usize, byte: isize, length: usize) -> String {
-    let name = AREA_NAMES.get(i).unwrap_or(&"the buffer");
+fn touched(name: &str, byte: isize, length: usize) -> String {
     if (0..length as isize).contains(&byte) {
         format!("byte {byte} of {name} was written, which is lent for reading")
     } else {
@@ -244,7 +306,8 @@ pub fn catch_strays() -> std::io::Result<(u64, Vec<String>)> {
             Deed::ReadBefore | Deed::WriteBefore => -1,
             Deed::WriteInto => 0,
         };
-        let right = touched(stray.slice, byte, length);
+        let name = AREA_NAMES.get(stray.slice).unwrap_or(&"the buffer");
+        let right = touched(name, byte, length);
         let ran = std::process::Command::new(std::env::current_exe()?).args(["stray", &which.to_string()]).output()?;
         if ran.status.code() == Some(1) && String::from_utf8_lossy(&ran.stdout).contains(&right) {
             caught += 1;

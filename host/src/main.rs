@@ -9,14 +9,27 @@ mod areas;
 mod bench;
 mod bench_stores;
 mod bench_tables;
+mod bench_wal;
 mod calls;
 mod cases;
+mod container;
 mod coverage;
 mod damage;
+mod desk;
+mod faults;
 mod fence;
 mod flash;
 mod history;
+mod inspect;
+mod journal;
+mod journal_run;
+mod journal_wrong;
+mod json;
+mod layouts;
+#[cfg(any(archive_journal, archive_wal))]
+mod layouts_archive;
 mod ledger;
+mod life;
 mod machine;
 mod pair;
 mod plot;
@@ -26,7 +39,12 @@ mod record;
 mod session;
 mod sound;
 mod states;
+#[cfg(test)]
+mod touched;
 mod twin;
+mod wal;
+mod wal_run;
+mod wal_wrong;
 mod wrong;
 
 use calls::Store;
@@ -71,10 +89,19 @@ fn usage() -> ExitCode {
          \x20      ventarico-host fences [percent] [seed]  damage and sessions on slices between fences (default 100)\n\
          \x20      ventarico-host pairs [calls] [seed]     pairs of stores with the same transactions (default {})\n\
          \x20      ventarico-host wrong [seed]             wrong stores, each of which must be caught\n\
+         \x20      ventarico-host journal [percent] [seed] rollback journals, played and written (default 100)\n\
+         \x20      ventarico-host wal [percent] [seed]     write-ahead logs, written and judged (default 100)\n\
          \x20      ventarico-host coverage [calls] [seed]  sessions and damage, then what they have shown\n\
          \x20      ventarico-host all [calls] [seed]       all of these\n\
-         \x20      ventarico-host bench WHAT [FILE]        calls, growth, ledger, flash or quick; see host/bench",
-        CALLS / PAIRS_PART
+         \x20      ventarico-host bench WHAT [FILE]        calls, growth, ledger, rebuild, flash, wal or quick; see host/bench\n\
+         \x20      ventarico-host life FILE                the torch's story as a page for a browser; see host/life\n\
+         \x20      ventarico-host {}  what a store in a file holds, and whether it is sound\n\
+         \n\
+         for the service desk:\n\
+         \x20      ventarico-host wal-judge FILE                  a write-ahead log: frames, commits, where it stops and why\n\
+         \x20      ventarico-host journal-play JOURNAL DATABASE   plays a rollback journal over a database file",
+        CALLS / PAIRS_PART,
+        inspect::WORDS
     );
     ExitCode::from(2)
 }
@@ -83,6 +110,17 @@ fn main() -> ExitCode {
     let words: Vec<String> = std::env::args().skip(1).collect();
     if words.first().is_some_and(|word| word == "bench") {
         return bench_tables::command(&Tested {}, LINKED, &words[1..]).unwrap_or_else(usage);
+    }
+    if words.first().is_some_and(|word| word == "inspect") {
+        return inspect::command(&words[1..]);
+    }
+    if let Some(ended) = desk::command(&words) {
+        return ended;
+    }
+    if let [word, file] = &words[..] {
+        if word == "life" {
+            return picture_of_a_life(file);
+        }
     }
     let Some(numbers) =
         words.iter().skip(1).map(|word| word.replace('_', "").parse().ok()).collect::<Option<Vec<u64>>>()
@@ -112,6 +150,10 @@ fn main() -> ExitCode {
             (0, 1)
         }
         (Some("wrong"), 0..=1) => wrong(only_seed),
+        (Some("wal"), 0) => layouts::wal(100, seed),
+        (Some("wal"), 1..=2) => layouts::wal(numbers[0], seed),
+        (Some("journal"), 0) => layouts::journal(100, seed),
+        (Some("journal"), 1..=2) => layouts::journal(numbers[0], seed),
         (Some("coverage"), 0..=2) => {
             let parts = [
                 sessions(&Tested {}, calls, seed, &mut coverage),
@@ -128,6 +170,8 @@ fn main() -> ExitCode {
                 fences(100, seed),
                 pairs(calls / PAIRS_PART, seed),
                 wrong(seed),
+                layouts::journal(100, seed),
+                layouts::wal(100, seed),
                 covered(&coverage),
             ];
             sum(&parts)
@@ -136,6 +180,22 @@ fn main() -> ExitCode {
     };
     println!("{passed} passed, {failed} failed");
     ExitCode::from(u8::from(failed > 0))
+}
+
+/// Writes the page of the torch's story.
+fn picture_of_a_life(file: &str) -> ExitCode {
+    let written = life::page(&mut Tested {}, LINKED)
+        .and_then(|(html, steps)| std::fs::write(file, html).map(|()| steps).map_err(|why| format!("{file}: {why}")));
+    match written {
+        Ok(steps) => {
+            println!("{file}: {steps} steps; open it in a browser");
+            ExitCode::SUCCESS
+        }
+        Err(why) => {
+            println!("life FAILED: {why}. Next: run the cases, then look at host/src/life.rs");
+            ExitCode::FAILURE
+        }
+    }
 }
 
 /// From the clock: each run without a seed goes over new ground.

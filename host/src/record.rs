@@ -62,6 +62,18 @@ impl Record {
     }
 }
 
+impl std::fmt::Display for Record {
+    fn fmt(&self, f: &mut std::fmt::Formatter) -> std::fmt::Result {
+        let Record { page, offset, length, kind, value } = self;
+        let kind = match *kind {
+            SET => "set".to_string(),
+            ADD => "add".to_string(),
+            other => format!("kind {other}"),
+        };
+        write!(f, "page {page}, offset {offset}, length {length}, {kind} {value}")
+    }
+}
+
 /// Whether the value is below 256 to the power of the length (1, 2, 4 or 8).
 pub fn fits(value: u64, length: u32) -> bool {
     length >= 8 || value >> (8 * length) == 0

@@ -59,6 +59,35 @@ impl Clause {
         (Clause::LiveByte, "S20 one canonical value: a live byte is 0 or 1 (ours)"),
     ];
 
+    /// The clauses as docs/RULES.md says them, in the same order.
+    pub const SENTENCES: [&'static str; 20] = [
+        "The area fixed has 20 bytes, and page size, pages, frames, online size and log size are in their ranges.",
+        "Each of the other six areas has exactly the length that the sizes give.",
+        "n is at most the log size, m at most the online size, u at most the frames.",
+        "Each page entry is absent, evicted, or in a frame of the store, clean or dirty.",
+        "At most one entry is in each frame.",
+        "The use order names frames of the store only: each that an entry is in once, and no other.",
+        "Each record of the log and of the online table is well formed.",
+        "Each online record is committed, with owner 0 and a number from 1 to L, or uncommitted, with an owner from 1 to 32 \
+         that is live and the number 0.",
+        "No two online records have the same number, 0 apart.",
+        "Each committed online record has a number that the log has, and is the log's record of it, byte for byte.",
+        "The number of each committed online record is above the stamp of its page.",
+        "A page's entry is dirty exactly if the online table has a record for the page.",
+        "Two uncommitted online records of different owners share no byte.",
+        "Every byte of the log rows from n on, of the online rows from m on, and of the use order's places from u on is 0.",
+        "K and every stamp are at most L.",
+        "n is at most L.",
+        "Each dirty number other than 0 is at most K.",
+        "The log's first number, L − n + 1, is at most K + 1, also when the log is empty.",
+        "The log's first number is at most each dirty number other than 0.",
+        "Each byte of the live set is 0 or 1.",
+    ];
+
+    pub fn sentence(self) -> &'static str {
+        Clause::SENTENCES[self as usize]
+    }
+
     /// S1 to S20.
     pub fn label(self) -> &'static str {
         let name = Clause::ALL[self as usize].1;
@@ -289,6 +318,42 @@ mod tests {
             assert_eq!(Clauses::only(clause).to_string(), label);
             assert!(trace.contains(&format!("\n| {label} | {words} |")), "docs/TRACE.md has other words for {name}");
         }
+    }
+
+    #[test]
+    fn sentences_are_those_of_the_rules() {
+        let rules = include_str!("../../docs/RULES.md");
+        for (clause, name) in Clause::ALL {
+            let (label, words) = name.split_once(' ').unwrap();
+            let row = format!("\n| {label} | {} | {} |\n", words.trim_end_matches(" (ours)"), clause.sentence());
+            assert!(rules.contains(&row), "docs/RULES.md has other words: {row}");
+        }
+    }
+
+    #[test]
+    fn the_rules_name_definitions_that_are_there() {
+        let root = std::path::Path::new(env!("CARGO_MANIFEST_DIR")).join("..");
+        let rules = include_str!("../../docs/RULES.md");
+        let (_, section) = rules.split_once("\n## 13 ").unwrap();
+        let (section, _) = section.split_once("\n## 14 ").unwrap();
+        let mut names = 0;
+        for row in section.lines().filter(|line| line.starts_with("| ") && line.contains("crates/")) {
+            let cells: Vec<_> = row.split('|').collect();
+            // Every spec file of the crates that the row names.
+            let specs: String = cells[2]
+                .split("crates/")
+                .skip(1)
+                .filter_map(|place| place.split('/').next())
+                .flat_map(|name| std::fs::read_dir(root.join("crates").join(name).join("specs")).unwrap())
+                .map(|file| std::fs::read_to_string(file.unwrap().path()).unwrap())
+                .collect();
+            for name in cells[3].split('`').skip(1).step_by(2) {
+                let declared = [format!("pub {name} "), format!("pub record {name} "), format!("pub data {name} ")];
+                assert!(declared.iter().any(|words| specs.contains(words)), "docs/RULES.md names {name}: {row}");
+                names += 1;
+            }
+        }
+        assert!(names > 50, "only {names} names were found");
     }
 
     #[test]

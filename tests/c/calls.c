@@ -1,5 +1,5 @@
-/* Every function of include/ventarico.h, called as the firmware calls it. What must come of a call is written down by
- * hand from document 01 and docs/LAYOUT.md, byte by byte. tests/c/run builds and runs this. */
+/* Every function of include/, called as the firmware calls it. What must come of a call is written down by hand from
+ * document 01 and docs/LAYOUT.md, or from SQLite's published layout, byte by byte. tests/c/run builds and runs this. */
 #include "store.h"
 #include "topics.h"
 
@@ -13,5 +13,8 @@ int main(void)
     topic("soundness", soundness);
     topic("ranges", ranges);
     topic("clerk", clerk);
+    topic("wrappers", wrappers);
+    topic("journal", journal);
+    topic("wal", wal);
     return checks_end();
 }

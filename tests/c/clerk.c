@@ -97,6 +97,26 @@ static void the_last_number_is_given_and_no_more(void)
     CLERK_COMMIT(&d, 0, 32, 0);
 }
 
+/* Records up to the last of 32 bits, on both sides of the highest bit. */
+static void any_number_of_records_is_counted(void)
+{
+    static const uint32_t ends[] = {0, 1, 255, 256, 65535, 65536, END / 2, END / 2 + 1, END - 1, END};
+    for (size_t i = 0; i < sizeof ends / sizeof *ends; i++)
+        for (size_t j = 0; j < sizeof ends / sizeof *ends; j++) {
+            story("clerk: %u records after number %u", (unsigned)ends[j], (unsigned)ends[i]);
+            struct desk d = desk_of(ends[i]);
+            d.want.live[16] = 1;
+            CLERK_BEGIN(&d, 0, 17);
+            if ((uint64_t)ends[i] + ends[j] <= END) {
+                d.want.live[16] = 0;
+                d.want.last = ends[i] + ends[j];
+                CLERK_COMMIT(&d, 0, 17, ends[j]);
+            } else {
+                CLERK_COMMIT(&d, 9, 17, ends[j]);
+            }
+        }
+}
+
 /* The header: with any values, and live where the byte is 1. */
 static void a_byte_other_than_1_is_not_live(void)
 {
@@ -118,5 +138,6 @@ void clerk(void)
     bad_numbers_are_refused();
     each_number_begins_once_and_ends();
     the_last_number_is_given_and_no_more();
+    any_number_of_records_is_counted();
     a_byte_other_than_1_is_not_live();
 }

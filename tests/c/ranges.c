@@ -203,6 +203,65 @@ static void the_largest_store(void)
     store_free(&s);
 }
 
+/* Every second page has a record of its own, so that a checkpoint writes more pages than a byte can count. */
+static void a_checkpoint_of_512_pages(void)
+{
+    story("a checkpoint of 512 pages");
+    struct store s = fresh_store((struct sizes){512, 1024, 1, 512, 512}, 0);
+    BEGUN(&s, 1);
+    for (uint32_t i = 0; i < 512; i++) {
+        struct record record = set(2 * i + 1, i, 1, i % 251 + 1);
+        want_fetched(&s, 0, record.page);
+        want_frame(&s, 0, i, 1, record.value);
+        if (i > 0)
+            want_entry(&s, 2 * i - 1, EVICTED);
+        want_entry(&s, record.page, DIRTY(0));
+        WANT_ORDER(&s, 0);
+        want_row(&s, i, owned(1, record));
+        want_online_count(&s, (uint16_t)(i + 1));
+        UPDATE(&s, done(1, 0, 0), 1, record.page, i, 1, SET, record.value);
+    }
+    for (uint32_t i = 0; i < 512; i++) {
+        struct record record = set(2 * i + 1, i, 1, i % 251 + 1);
+        want_row(&s, i, numbered(i + 1, record));
+        want_log_row(&s, i, record);
+    }
+    want_last(&s, 512);
+    want_logged(&s, 512);
+    want_live(&s, 1, 0);
+    COMMIT(&s, done(0, 0, 1), 1);
+
+    for (uint32_t i = 0; i < 512; i++) {
+        want_stored(&s, 2 * i + 1, i, 1, i % 251 + 1);
+        want_stamp(&s, 2 * i + 1, i + 1);
+        want_entry(&s, 2 * i + 1, i == 511 ? CLEAN(0) : ABSENT);
+    }
+    WANT_NO_ONLINE(&s);
+    want_kay(&s, 512);
+    WANT_NO_LOG(&s);
+    CHECKPOINT(&s, done(511, 512, 1), 1, END);
+    store_free(&s);
+}
+
+/* A read into a buffer far larger than any page: what stands behind the bytes read stays, to its end. */
+static void a_buffer_of_a_megabyte(void)
+{
+    story("a buffer of a megabyte");
+    struct store s = fresh_store((struct sizes){4096, 2, 1, 1, 1}, 0);
+    uint8_t page[4096];
+    for (uint32_t i = 0; i < 4096; i++)
+        page[i] = stored_byte(&s, 1, i);
+    BEGUN(&s, 1);
+    want_fetched(&s, 0, 1);
+    want_entry(&s, 1, CLEAN(0));
+    WANT_ORDER(&s, 0);
+    READ_INTO(&s, done(1, 0, 0), 1 << 20, 1, 1, 0, 4096, page);
+    READ_INTO(&s, DONE, 1 << 20, 1, 1, 4095, 1, page + 4095);
+    READ_INTO(&s, refused(2), 1 << 20, 1, 1, 0, 4097, NULL);
+    READ_INTO(&s, refused(2), 1 << 20, 1, 1, 0, 1 << 20, NULL);
+    store_free(&s);
+}
+
 /* ---- Transaction numbers and log numbers. */
 
 /* Each has a byte of its own and none may read another's. */
@@ -311,6 +370,8 @@ void ranges(void)
     each_page_size();
     the_smallest_store();
     the_largest_store();
+    a_checkpoint_of_512_pages();
+    a_buffer_of_a_megabyte();
     all_32_transactions();
     the_last_log_number();
     the_greatest_age();

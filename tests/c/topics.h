@@ -9,5 +9,8 @@ void refusals(void);
 void soundness(void);
 void ranges(void);
 void clerk(void);
+void wrappers(void);
+void journal(void);
+void wal(void);
 
 #endif

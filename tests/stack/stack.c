@@ -1,5 +1,5 @@
 /* How much stack each call takes, on the largest store: every call runs on a painted stack of its own, and the deepest
- * byte that was written is looked up afterwards. "No call needs more than 32 KiB of stack."
+ * byte that was written is looked up afterwards. No call needs more than 16 KiB of it.
  */
 #include <stdint.h>
 #include <stdio.h>
@@ -8,14 +8,18 @@
 #include <ucontext.h>
 
 #include "ventarico.h"
+#include "ventarico_journal.h"
+#include "ventarico_wal.h"
 
-enum { SIZE = 4096, PAGES = 1024, FRAMES = 64, ONLINE = 512, LOG = 2048, LIMIT = 32 * 1024, STACK = 256 * 1024, PAINT = 0xA5 };
+enum { SIZE = 4096, PAGES = 1024, FRAMES = 64, ONLINE = 512, LOG = 2048, LIMIT = 16 * 1024, STACK = 256 * 1024, PAINT = 0xA5 };
 
 static uint8_t fixed[20], marks[12 + 8 * PAGES], log_rows[14 * LOG], stored[(size_t)SIZE * PAGES];
 static uint8_t tables[35 + FRAMES + PAGES], online[19 * ONLINE], pool[(size_t)SIZE * FRAMES], buffer[SIZE];
 #define AREA(a) a, sizeof a
 #define STORE AREA(fixed), AREA(marks), AREA(log_rows), AREA(stored), AREA(tables), AREA(online), AREA(pool)
 
+static uint8_t target[65536 + 32 + (size_t)PAGES * (SIZE + 24)]; /* a journal, or a log, of every page */
+static uint32_t list[PAGES];
 static uint8_t stack[STACK];
 static ucontext_t home, away;
 static ventarico_reply reply;
@@ -32,6 +36,12 @@ static void do_compact(void) { reply = ventarico_compact(STORE, page, 1, 0); }
 static void do_close(void) { reply = ventarico_close(STORE); }
 static void do_checkpoint(void) { reply = ventarico_checkpoint(STORE, 1, 0); }
 static void do_restart(void) { reply = ventarico_restart(STORE); }
+
+static void do_log(void) { reply = ventarico_wal_write(STORE, list, PAGES, AREA(target), 1, 2, 3, VENTARICO_WAL_LOWEST_FIRST); }
+static void do_judge(void) { reply.code = ventarico_wal_judge(AREA(target)).code; }
+static void do_find(void) { reply.code = ventarico_wal_find(AREA(target), PAGES).code; }
+static void do_keep(void) { reply.code = ventarico_journal_write(AREA(stored), list, PAGES, AREA(target), SIZE, 7, 65536).code; }
+static void do_play(void) { reply.code = ventarico_journal_play(AREA(target), AREA(stored), SIZE).code; }
 
 static int failed, passed;
 
@@ -52,7 +62,7 @@ static size_t depth_of(void (*call)(void)) {
 static void show(const char *name, void (*call)(void)) {
     size_t depth = depth_of(call);
     int good = reply.code == VENTARICO_DONE && depth <= LIMIT;
-    printf("%-10s code %u, %6zu bytes of stack%s\n", name, (unsigned)reply.code, depth, good ? "" : "   <-- not done, or too deep");
+    printf("%-13s code %u, %6zu bytes of stack%s\n", name, (unsigned)reply.code, depth, good ? "" : "   <-- not done, or too deep");
     good ? passed++ : failed++;
 }
 
@@ -96,6 +106,12 @@ int main(void) {
     show("compact", do_compact); /* from its frame */
     show("close", do_close);
     show("checkpoint", do_checkpoint);
+    for (unsigned i = 0; i < PAGES; i++) list[i] = i;
+    show("wal_write", do_log);
+    show("wal_judge", do_judge);
+    show("wal_find", do_find);
+    show("journal_write", do_keep);
+    show("journal_play", do_play);
     printf("%d passed, %d failed\n", passed, failed);
     return failed != 0;
 }

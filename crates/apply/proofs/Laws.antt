@@ -1,20 +1,18 @@
--- Laws of `put` at a remainder, of what changes to a page leave as it was, and of the turns of `fold`.
+-- Laws of `put` at a remainder, of a change by its fields, and of the turns of `fold`.
 use Prim.Native.Nat.{ℕ, zero, suc, _+_, _-_, _/_, _%_, _^_, _≤_, _<_}
 use native.Mathlib.Omega.{arith}
 use native.Mathlib.Nat.{pow-suc}
 use mathlib.Core.Path.{_≡_, refl, sym, ap, _∙_}
 use mathlib.Core.Bool.{Bool, true, false, cond, _&&_, and-false}
-use mathlib.Core.List.{List, [], _∷_}
+use mathlib.Core.List.{List}
 use lib.ListN.{length, set}
 use lib.Arith.{mod-mul, digits-div, digits-mod}
 use lib.Dec.{eqb, leb}
 use borrow.Author.Tests.{leb-true, leb-false, le-leb, lt-leb, eq-eqb, ne-eqb}
 use Rattle.word.specs.Word.{num, put}
-use Rattle.word.proofs.Laws.{length-put}
-use Rattle.word.proofs.Tests.{and-both}
-use Rattle.record.specs.Rows.{rowAt, rows, keep, consIf}
+use Rattle.record.specs.Rows.{rowAt, rows, keep}
 use Rattle.record.specs.Record.{pageOf, offsetOf, lengthOf, kindOf, valueOf, ownerOf, changed, change, apply, applied, chosen}
-use Rattle.record.proofs.Laws.{either-length}
+use Rattle.record.proofs.Changes.{room-both, applied-keep}
 
 -- a remainder by a power of 256: its lowest byte, and what is above it
 pow-pos : (k : ℕ) → 0 < 256 ^ k
@@ -46,20 +44,6 @@ put-mod w l at x = put-below w w l at x (omega arith)
 pub put-wrap : (w : ℕ) (l : List ℕ) (at x : ℕ) → w ≤ 8 → put w l at (x % 2 ^ 64) ≡ put w l at (x % 256 ^ w)
 put-wrap w l at x h = put-below w 8 l at x h ∙ sym (put-mod w l at x)
 
--- a page keeps its length
-pub length-change : (offset w kind v : ℕ) (g : List ℕ) → length (change offset w kind v g) ≡ length g
-unfolding change
-length-change offset w kind v g = either-length (leb (offset + w) (length g) && leb w 8) (length g) _ g (length-put w g offset (changed kind w (num w g offset) v)) refl
-
-pub length-apply : (r g : List ℕ) → length (apply r g) ≡ length g
-unfolding apply
-length-apply r g = length-change _ _ _ _ g
-
-pub length-applied : (rs : List (List ℕ)) (g : List ℕ) → length (applied rs g) ≡ length g
-unfolding applied
-length-applied [] g = refl
-length-applied (r ∷ rs) g = length-applied rs (apply r g) ∙ length-apply r g
-
 -- `has_room`: more bytes than a number has, bytes past the page's end, and neither
 pub room-wide : (n offset w : ℕ) → 8 < w → false ≡ (leb (offset + w) n && leb w 8)
 room-wide n offset w h = rw (lt-leb w 8 h) (sym (and-false (leb (offset + w) n)))
@@ -79,11 +63,6 @@ room-left n offset w h k = go (leb offset (n - w)) refl
         e ∙ room-past n offset w f
 
 -- `write_change`: a change that fits, and one that does not
-pub room-both : (n offset w : ℕ) → (leb (offset + w) n && leb w 8) ≡ true → (w ≤ 8) × (offset + w ≤ n)
-room-both n offset w h =
-    let e = and-both (leb (offset + w) n) (leb w 8) h in
-    (leb-true w 8 (e .1), leb-true (offset + w) n (e .0))
-
 put-written : (b : Bool) (w : ℕ) (l : List ℕ) (at s v : ℕ) → w ≤ 8 → put w l at (cond b (s % 2 ^ 64) v) ≡ put w l at (cond b (s % 256 ^ w) v)
 put-written true w l at s v h = put-wrap w l at s h
 put-written false w l at s v h = refl
@@ -96,15 +75,6 @@ change-room offset w kind v old x g g′ h eo ex eg =
 pub change-none : (offset w kind v : ℕ) (g : List ℕ) → (leb (offset + w) (length g) && leb w 8) ≡ false → g ≡ change offset w kind v g
 unfolding change
 change-none offset w kind v g h = rw h
-
--- one row more is looked at
-pub applied-keep : (b : List ℕ → Bool) (r : List ℕ) (rs : List (List ℕ)) (g : List ℕ) → applied (keep b (r ∷ rs)) g ≡ applied (keep b rs) (cond (b r) (apply r g) g)
-unfolding keep applied
-applied-keep b r rs g = pick (b r)
-  where
-    pick : (x : Bool) → applied (consIf x r (keep b rs)) g ≡ applied (keep b rs) (cond x (apply r g) g)
-    pick true = refl
-    pick false = refl
 
 -- `apply_row`: a change by the fields of a row
 pub apply-fields : (r g g′ : List ℕ) (offset w kind v : ℕ) → offset ≡ offsetOf r → w ≡ lengthOf r → kind ≡ kindOf r → v ≡ valueOf r → g′ ≡ change offset w kind v g → g′ ≡ apply r g

@@ -3,23 +3,23 @@ use Prim.Native.Nat.{ℕ}
 use mathlib.Core.Path.{_≡_, refl}
 use mathlib.Core.List.{List, [], _∷_, map}
 use lib.ListN.{replicate}
-use Rattle.rules.specs.Lent.{Lent, lentOf}
-use Rattle.cases.specs.Play.{Event, play}
-use Rattle.cases.specs.Play.Event.{Begin, Commit, Abort, Evict, Read, Update, Checkpoint, Restart, Loss, Format, Stored, Last, Closed, Logged, Online, Order, Stamp, Entry}
+use Rattle.rules.specs.Lent.{Lent, lentOf, given}
+use Rattle.cases.specs.Play.{Act, play}
+use Rattle.cases.specs.Play.Act.{Begin, Commit, Abort, Evict, Read, Update, Checkpoint, Restart, Loss, Format, Stored, Last, Closed, Logged, Online, Order, Stamp, Entry}
 use Rattle.cases.specs.Small.{Case, _gives_, done, blank}
 
 -- "pages read 0, 1, 0, 2: page 1 is dropped"; an evict touches nobody
 unfoldable pub victim-is-least-recent : List Case
 unfolding done
 victim-is-least-recent =
-    Format 512 8 2 4 8 0 gives done
+    Format (given 512 8 2 4 8) 0 gives done
     ∷ Begin 1 gives done
-    ∷ Read 1 0 0 1 gives (0 ∷ 0 ∷ 1 ∷ 0 ∷ 0 ∷ 0 ∷ 7 ∷ [])
-    ∷ Read 1 1 0 1 gives (0 ∷ 0 ∷ 1 ∷ 0 ∷ 0 ∷ 0 ∷ 7 ∷ [])
+    ∷ Read 1 0 0 1 gives (0 ∷ 0 ∷ 1 ∷ 0 ∷ 0 ∷ 0 ∷ 99 ∷ [])
+    ∷ Read 1 1 0 1 gives (0 ∷ 0 ∷ 1 ∷ 0 ∷ 0 ∷ 0 ∷ 99 ∷ [])
     ∷ Order gives (0 ∷ 1 ∷ [])
-    ∷ Read 1 0 0 1 gives (0 ∷ 0 ∷ 0 ∷ 0 ∷ 0 ∷ 0 ∷ 7 ∷ [])
+    ∷ Read 1 0 0 1 gives (0 ∷ 0 ∷ 0 ∷ 0 ∷ 0 ∷ 0 ∷ 99 ∷ [])
     ∷ Order gives (1 ∷ 0 ∷ [])
-    ∷ Read 1 2 0 1 gives (0 ∷ 0 ∷ 1 ∷ 0 ∷ 0 ∷ 0 ∷ 7 ∷ [])
+    ∷ Read 1 2 0 1 gives (0 ∷ 0 ∷ 1 ∷ 0 ∷ 0 ∷ 0 ∷ 99 ∷ [])
     ∷ Entry 0 gives (2 ∷ [])
     ∷ Entry 1 gives (0 ∷ [])
     ∷ Entry 2 gives (4 ∷ [])
@@ -27,7 +27,7 @@ victim-is-least-recent =
     ∷ Evict 1 gives (10 ∷ 0 ∷ 0 ∷ 0 ∷ 0 ∷ [])
     ∷ Evict 0 gives done
     ∷ Order gives (1 ∷ [])
-    ∷ Read 1 3 0 1 gives (0 ∷ 0 ∷ 1 ∷ 0 ∷ 0 ∷ 0 ∷ 7 ∷ [])
+    ∷ Read 1 3 0 1 gives (0 ∷ 0 ∷ 1 ∷ 0 ∷ 0 ∷ 0 ∷ 99 ∷ [])
     ∷ Entry 3 gives (2 ∷ [])
     ∷ []
 
@@ -35,7 +35,7 @@ victim-is-least-recent =
 unfoldable pub numbered-in-table-order : List Case
 unfolding done
 numbered-in-table-order =
-    Format 512 8 2 4 8 10 gives done
+    Format (given 512 8 2 4 8) 10 gives done
     ∷ Begin 3 gives done
     ∷ Update 3 2 4 1 0 5 gives (0 ∷ 0 ∷ 1 ∷ 0 ∷ 0 ∷ [])
     ∷ Update 3 2 4 1 0 6 gives done
@@ -44,14 +44,14 @@ numbered-in-table-order =
     ∷ Loss gives []
     ∷ Restart gives done
     ∷ Begin 3 gives done
-    ∷ Read 3 2 4 1 gives (0 ∷ 0 ∷ 1 ∷ 0 ∷ 0 ∷ 6 ∷ 7 ∷ [])
+    ∷ Read 3 2 4 1 gives (0 ∷ 0 ∷ 1 ∷ 0 ∷ 0 ∷ 6 ∷ 99 ∷ [])
     ∷ []
 
 -- a checkpoint: page 1 is evicted and all committed, page 6 in a frame with an uncommitted record too, page 7 in a frame and all committed
 unfoldable pub whole-checkpoint : List Case
 unfolding done
 whole-checkpoint =
-    Format 512 8 2 4 8 0 gives done
+    Format (given 512 8 2 4 8) 0 gives done
     ∷ Begin 1 gives done
     ∷ Begin 2 gives done
     ∷ Update 1 1 0 1 0 9 gives (0 ∷ 0 ∷ 1 ∷ 0 ∷ 0 ∷ [])
@@ -75,14 +75,14 @@ whole-checkpoint =
     ∷ Online gives (0 ∷ [])
     ∷ Closed gives (3 ∷ [])
     ∷ Logged gives (4 ∷ 0 ∷ [])
-    ∷ Read 2 6 0 2 gives (0 ∷ 0 ∷ 1 ∷ 0 ∷ 0 ∷ 8 ∷ 3 ∷ 7 ∷ [])
+    ∷ Read 2 6 0 2 gives (0 ∷ 0 ∷ 1 ∷ 0 ∷ 0 ∷ 8 ∷ 3 ∷ 99 ∷ [])
     ∷ []
 
 -- the ends: a full log and the last number, "full log and L at its end: 8"; refused with not a byte changed
 unfoldable pub both-ends : List Case
 unfolding done
 both-ends =
-    Format 512 8 2 4 1 4294967294 gives done
+    Format (given 512 8 2 4 1) 4294967294 gives done
     ∷ Begin 1 gives done
     ∷ Update 1 0 504 8 1 1 gives (0 ∷ 0 ∷ 1 ∷ 0 ∷ 0 ∷ [])
     ∷ Update 1 0 505 8 1 1 gives (2 ∷ 0 ∷ 0 ∷ 0 ∷ 0 ∷ [])

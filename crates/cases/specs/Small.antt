@@ -4,9 +4,9 @@ use Prim.Native.Nat.{ℕ}
 use mathlib.Core.Path.{_≡_, refl}
 use mathlib.Core.List.{List, [], _∷_, _++_, map}
 use lib.ListN.{replicate}
-use Rattle.rules.specs.Lent.{Lent, lentOf}
-use Rattle.cases.specs.Play.{Event, play}
-use Rattle.cases.specs.Play.Event.{Begin, Commit, Abort, Evict, Read, Update, Compact, Close, Restart, Loss, Format, Stored, Last, Closed, Logged, Online, Tables, Rows, Stamp, Dirty, Entry}
+use Rattle.rules.specs.Lent.{Lent, lentOf, given}
+use Rattle.cases.specs.Play.{Act, play}
+use Rattle.cases.specs.Play.Act.{Begin, Commit, Abort, Evict, Read, Update, Compact, Close, Restart, Loss, Format, Stored, Last, Closed, Logged, Online, Tables, Rows, Stamp, Dirty, Entry}
 
 -- seven areas of the right lengths for the small store; format is the first call
 unfoldable pub blank : Lent
@@ -14,11 +14,11 @@ blank = lentOf (replicate 20 0) (replicate 76 0) (replicate 112 0) (replicate 40
 
 -- an event, and what it must show: for a call code, note, page reads, page writes, log writes, then the bytes read
 pub record Case : Type 0 where
-  pub event : Event
+  pub event : Act
   pub shows : List ℕ
 
 infix 90 _gives_
-abbrev pub _gives_ : Event → List ℕ → Case
+abbrev pub _gives_ : Act → List ℕ → Case
 e gives l = record { event = e; shows = l }
 
 unfoldable pub done : List ℕ
@@ -37,7 +37,7 @@ restarted-rows =
 unfoldable pub p1-to-p12 : List Case
 unfolding done restarted-tables restarted-rows
 p1-to-p12 =
-    Format 512 8 2 4 8 0 gives done
+    Format (given 512 8 2 4 8) 0 gives done
     -- P1
     ∷ Begin 1 gives done
     ∷ Begin 1 gives (5 ∷ 0 ∷ 0 ∷ 0 ∷ 0 ∷ [])
@@ -46,21 +46,21 @@ p1-to-p12 =
     ∷ Update 1 5 16 1 0 7 gives (0 ∷ 0 ∷ 1 ∷ 0 ∷ 0 ∷ [])
     ∷ Stored 5 16 gives (0 ∷ [])
     -- P3
-    ∷ Read 2 5 16 1 gives (6 ∷ 0 ∷ 0 ∷ 0 ∷ 0 ∷ 7 ∷ 7 ∷ [])
-    ∷ Read 2 5 17 1 gives (0 ∷ 0 ∷ 0 ∷ 0 ∷ 0 ∷ 0 ∷ 7 ∷ [])
+    ∷ Read 2 5 16 1 gives (6 ∷ 0 ∷ 0 ∷ 0 ∷ 0 ∷ 99 ∷ 99 ∷ [])
+    ∷ Read 2 5 17 1 gives (0 ∷ 0 ∷ 0 ∷ 0 ∷ 0 ∷ 0 ∷ 99 ∷ [])
     -- P4
     ∷ Update 2 5 17 1 1 255 gives done
     ∷ Update 2 5 17 1 1 2 gives done
-    ∷ Read 2 5 17 1 gives (0 ∷ 0 ∷ 0 ∷ 0 ∷ 0 ∷ 1 ∷ 7 ∷ [])
+    ∷ Read 2 5 17 1 gives (0 ∷ 0 ∷ 0 ∷ 0 ∷ 0 ∷ 1 ∷ 99 ∷ [])
     -- P5
     ∷ Evict 5 gives done
-    ∷ Read 1 5 16 1 gives (0 ∷ 0 ∷ 1 ∷ 0 ∷ 0 ∷ 7 ∷ 7 ∷ [])
+    ∷ Read 1 5 16 1 gives (0 ∷ 0 ∷ 1 ∷ 0 ∷ 0 ∷ 7 ∷ 99 ∷ [])
     -- P6
     ∷ Commit 1 gives (0 ∷ 0 ∷ 0 ∷ 0 ∷ 1 ∷ [])
     ∷ Last gives (1 ∷ [])
     ∷ Begin 1 gives done
     ∷ Abort 1 gives done
-    ∷ Read 2 5 16 1 gives (0 ∷ 0 ∷ 0 ∷ 0 ∷ 0 ∷ 7 ∷ 7 ∷ [])
+    ∷ Read 2 5 16 1 gives (0 ∷ 0 ∷ 0 ∷ 0 ∷ 0 ∷ 7 ∷ 99 ∷ [])
     -- P7
     ∷ Compact 5 1 4294967295 gives (0 ∷ 0 ∷ 1 ∷ 1 ∷ 0 ∷ [])
     ∷ Stored 5 16 gives (7 ∷ [])
@@ -81,7 +81,7 @@ p1-to-p12 =
     ∷ Rows gives restarted-rows
     -- P10
     ∷ Begin 4 gives done
-    ∷ Read 4 5 16 2 gives (0 ∷ 0 ∷ 1 ∷ 0 ∷ 0 ∷ 7 ∷ 1 ∷ 7 ∷ [])
+    ∷ Read 4 5 16 2 gives (0 ∷ 0 ∷ 1 ∷ 0 ∷ 0 ∷ 7 ∷ 1 ∷ 99 ∷ [])
     -- P11
     ∷ Close gives (0 ∷ 0 ∷ 0 ∷ 0 ∷ 1 ∷ [])
     ∷ Closed gives (3 ∷ [])

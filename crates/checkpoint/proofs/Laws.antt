@@ -1,27 +1,27 @@
 -- The marks of pages with committed rows; and the state after the first j compactions: at the start, a turn, at the end; and close after the last.
-use Prim.Native.Nat.{ℕ, suc, _+_, _*_, _-_, _≤_, _<_}
+use Prim.Native.Nat.{ℕ, suc, _+_, _*_, _≤_, _<_}
 use native.Mathlib.Omega.{arith}
 use native.Mathlib.Numerals.{add-one}
 use mathlib.Core.Path.{_≡_, refl, sym, ap, subst, _∙_}
 use mathlib.Core.Bool.{Bool, true, false, cond, _&&_}
 use mathlib.Core.List.{List, [], _∷_}
-use lib.ListN.{length, getD, set, replicate, length-set, length-replicate, getD-replicate}
+use lib.ListN.{length, getD, set, replicate, length-replicate}
 use lib.Seq.{set-out}
 use lib.Dec.{eqb}
 use borrow.Author.Tests.{eq-eqb, ne-eqb}
 use Rattle.word.specs.Word.{num}
-use Rattle.record.specs.Rows.{rowAt, rows, consIf, keep, any}
+use Rattle.record.specs.Rows.{rows, consIf, keep, any}
 use Rattle.record.specs.Record.{pageOf, ownerOf, committed, onPage, committedOn}
-use Rattle.table.proofs.Laws.{each-start, each-turn, each-end}
 use Rattle.rules.specs.Lent.{Lent, pagesOf, lastOf, loggedOf, countOf, onlineOf}
 use Rattle.rules.specs.Shape.{Shaped}
 use Rattle.rules.specs.Steps.{due, foldable, fromFrame, compacted, compactStep, closed, afterPages, checkpointed}
-use Rattle.onlinecheck.specs.Marks.{markPages}
-use Rattle.onlinecheck.proofs.Marks.{marked-any}
+use Rattle.table.specs.Marks.{markPages}
+use Rattle.table.proofs.Marks.{marked-page, marked-length}
 use Rattle.compact.proofs.Laws.{step-not}
-use Rattle.compact.proofs.Shapes.{fixed-step, last-step, logged-step, shaped-step, foldable-step}
+use Rattle.rules.proofs.Kept.{fixed-step, last-step, logged-step, logs-pages}
+use Rattle.compact.proofs.Shapes.{shaped-step, foldable-step}
 use Rattle.checkpoint.specs.Noted.{Noted}
-use Rattle.checkpoint.specs.After.{After}
+use Rattle.checkpoint.specs.Halfway.{Halfway}
 
 -- an open row leaves the marks as they are, a committed one does not
 pub row-open : (r y z : List ℕ) (o : ℕ) → o ≡ ownerOf r → (o ≡ 0 → ⊥) → z ≡ cond (committed r) y z
@@ -36,28 +36,6 @@ row-past r z o p e h g k = row-marks r z (set z (pageOf r) 1) z o e h (sym (set-
 pub row-marked : (r z : List ℕ) (o p : ℕ) → o ≡ ownerOf r → o ≡ 0 → p ≡ pageOf r → set z p 1 ≡ cond (committed r) (set z (pageOf r) 1) z
 row-marked r z o p e h g = row-marks r (set z p 1) (set z (pageOf r) 1) z o e h (ap (λ (v : ℕ). set z v 1) g)
 
--- the loop that marks: the rows still to come make of the marks so far what all rows make of the first
-abbrev markOne : List ℕ → List ℕ → List ℕ
-markOne r x = set x (pageOf r) 1
-
-mark-none : (x : List ℕ) → markPages [] x ≡ x
-unfolding markPages
-mark-none x = refl
-
-mark-more : (r : List ℕ) (rs : List (List ℕ)) (x : List ℕ) → markPages (r ∷ rs) x ≡ markPages rs (markOne r x)
-unfolding markPages
-mark-more r rs x = refl
-
-module _ (m : ℕ) (l : List ℕ) where
-  pub mark-start : (x : List ℕ) → markPages (keep committed (rows 19 (m - 0) l 0)) x ≡ markPages (keep committed (rows 19 m l 0)) x
-  mark-start = each-start markPages markOne mark-none mark-more committed m l
-
-  pub mark-turn : (i : ℕ) (x x′ z : List ℕ) → i < m → x′ ≡ cond (committed (rowAt 19 l i)) (set x (pageOf (rowAt 19 l i)) 1) x → markPages (keep committed (rows 19 (m - i) l i)) x ≡ z → markPages (keep committed (rows 19 (m - (i + 1)) l (i + 1))) x′ ≡ z
-  mark-turn = each-turn markPages markOne mark-none mark-more committed m l
-
-  pub mark-end : (i : ℕ) (x z : List ℕ) → m ≤ i → markPages (keep committed (rows 19 (m - i) l i)) x ≡ z → x ≡ z
-  mark-end = each-end markPages markOne mark-none mark-more committed m l
-
 -- where no committed row is of a page, the page has no committed row
 none-on : (p : ℕ) (l : List (List ℕ)) → any (onPage p) (keep committed l) ≡ false → length (keep (committedOn p) l) ≡ 0
 unfolding any keep
@@ -71,14 +49,9 @@ none-on p (r ∷ l) h = pick (committed r) (onPage p r) refl (none-on p l) h
     pick false true e f k = f k
     pick false false e f k = f k
 
-mark-length : (rs : List (List ℕ)) (a : List ℕ) → length (markPages rs a) ≡ length a
-unfolding markPages
-mark-length [] a = refl
-mark-length (r ∷ rs) a = mark-length rs (set a (pageOf r) 1) ∙ length-set a (pageOf r) 1
-
 -- the marks say which pages have no committed row
 pub noted-all : (a : List ℕ) (s : Lent) (m : ℕ) → m ≡ countOf s → a ≡ markPages (keep committed (rows 19 m (s .lost .online) 0)) (replicate 1024 0) → Noted a s
-noted-all a s m c h = record { long = ap length e ∙ mark-length (keep committed (onlineOf s)) (replicate 1024 0) ∙ z; none = one }
+noted-all a s m c h = record { long = ap length e ∙ marked-length (keep committed (onlineOf s)) (replicate 1024 0) ∙ z; none = one }
   where
     e : a ≡ markPages (keep committed (onlineOf s)) (replicate 1024 0)
     e = rw c at h
@@ -88,9 +61,7 @@ noted-all a s m c h = record { long = ap length e ∙ mark-length (keep committe
 
     one : (p : ℕ) → p < 1024 → (getD a p 0 ≡ 1 → ⊥) → length (foldable s p) ≡ 0
     one p l k =
-        let q : p < length {A = ℕ} (replicate 1024 0) = rw z l in
-        let g : eqb (getD a p 0) 1 ≡ any (onPage p) (keep committed (onlineOf s)) =
-        ap (λ (x : List ℕ). eqb (getD x p 0) 1) e ∙ marked-any p (keep committed (onlineOf s)) (replicate 1024 0) q ∙ rw (getD-replicate {A = ℕ} 1024 p 0 0 l) in
+        let g : eqb (getD a p 0) 1 ≡ any (onPage p) (keep committed (onlineOf s)) = marked-page (keep committed (onlineOf s)) a p l e in
         none-on p (onlineOf s) (sym g ∙ ne-eqb (getD a p 0) 1 k)
 
 -- a page without a mark: the step does nothing
@@ -123,7 +94,7 @@ step-writes minDel maxAge s p = go (due s p minDel maxAge)
     go false = omega arith
 
 -- nothing compacted yet
-pub after-none : (minDel maxAge : ℕ) (o : Lent) → Shaped o → loggedOf o ≤ lastOf o → After minDel maxAge o o 0 0 0
+pub after-none : (minDel maxAge : ℕ) (o : Lent) → Shaped o → loggedOf o ≤ lastOf o → Halfway minDel maxAge o o 0 0 0
 unfolding afterPages
 after-none minDel maxAge o w h =
     record {
@@ -151,7 +122,7 @@ after-writes : (minDel maxAge j : ℕ) (o : Lent) → afterPages minDel maxAge (
 unfolding afterPages
 after-writes minDel maxAge j o = refl
 
-module _ (minDel maxAge : ℕ) (o s : Lent) (reads writes j : ℕ) (a : After minDel maxAge o s reads writes j) where
+module _ (minDel maxAge : ℕ) (o s : Lent) (reads writes j : ℕ) (a : Halfway minDel maxAge o s reads writes j) where
   -- what the next compaction asks
   pub next-there : (n : ℕ) → n ≡ pagesOf o → j < n → j < pagesOf s
   next-there n k h = rw (a .fixed, ← k) h
@@ -165,7 +136,7 @@ module _ (minDel maxAge : ℕ) (o s : Lent) (reads writes j : ℕ) (a : After mi
 
   pub after-more : (s′ : Lent) (r w n : ℕ) → n ≡ pagesOf o → j < n
       → (r ≡ compactStep minDel maxAge s j .reads) × ((w ≡ compactStep minDel maxAge s j .writes) × (s′ ≡ compactStep minDel maxAge s j .lent))
-      → After minDel maxAge o s′ (reads + r) (writes + w) (j + 1)
+      → Halfway minDel maxAge o s′ (reads + r) (writes + w) (j + 1)
   after-more s′ r w n k h e =
       let h′ : j < pagesOf s = next-there n k h in
       let l : s′ ≡ compactStep minDel maxAge s j .lent = e .1 .1 in
@@ -192,8 +163,8 @@ module _ (minDel maxAge : ℕ) (o s : Lent) (reads writes j : ℕ) (a : After mi
       }
 
   -- the last page had its turn
-  pub after-last : (n : ℕ) → n ≡ pagesOf o → n ≤ j → After minDel maxAge o s reads writes (pagesOf o)
-  after-last n m h = let k : j ≡ pagesOf o = omega (arith, a .within) in subst (λ (x : ℕ). After minDel maxAge o s reads writes x) k a
+  pub after-last : (n : ℕ) → n ≡ pagesOf o → n ≤ j → Halfway minDel maxAge o s reads writes (pagesOf o)
+  after-last n m h = let k : j ≡ pagesOf o = omega (arith, a .within) in subst (λ (x : ℕ). Halfway minDel maxAge o s reads writes x) k a
 
   -- the areas are as long as at the start
   pub same-lengths : Shaped o
@@ -209,7 +180,12 @@ module _ (minDel maxAge : ℕ) (o s : Lent) (reads writes j : ℕ) (a : After mi
       )
 
 -- close after the last
-pub after-all : (minDel maxAge : ℕ) (o s s′ : Lent) (reads writes : ℕ) → After minDel maxAge o s reads writes (pagesOf o) → s′ ≡ closed s .lent
+pub after-all : (minDel maxAge : ℕ) (o s s′ : Lent) (reads writes : ℕ) → Halfway minDel maxAge o s reads writes (pagesOf o) → s′ ≡ closed s .lent
     → (reads ≡ checkpointed minDel maxAge o .reads) × ((writes ≡ checkpointed minDel maxAge o .writes) × (s′ ≡ checkpointed minDel maxAge o .lent))
-unfolding checkpointed
-after-all minDel maxAge o s s′ reads writes a e = (a .read, (a .written, e ∙ ap (λ (x : Lent). closed x .lent) (a .state)))
+unfolding checkpointed closed
+after-all minDel maxAge o s s′ reads writes a e = (omega (arith, a .read), (omega (arith, a .written), e ∙ ap (λ (x : Lent). closed x .lent) (a .state)))
+
+-- its log writes: none of a compaction, one of close
+pub checkpoint-logs : (minDel maxAge : ℕ) (s : Lent) → checkpointed minDel maxAge s .logs ≡ 1
+unfolding checkpointed closed
+checkpoint-logs minDel maxAge s = omega (arith, logs-pages minDel maxAge (pagesOf s) s)

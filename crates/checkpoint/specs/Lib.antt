@@ -1,3 +1,3 @@
 -- What the contracts of `checkpoint` cite.
 pub mod Noted
-pub mod After
+pub mod Halfway

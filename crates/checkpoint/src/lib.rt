@@ -6,12 +6,13 @@ ghost use Prim.Native.Nat.{_+_, _*_, _≤_, _<_};
 ghost use lib.ListN.{length, set};
 ghost use Rattle.record.specs.Rows.{rowAt, rows, keep};
 ghost use Rattle.record.specs.Record.{pageOf, committed};
-ghost use Rattle.rules.specs.Lent.{lentOf, pagesOf, lastOf, loggedOf};
+ghost use Rattle.rules.specs.Lent.{pagesOf, lastOf, loggedOf};
+ghost use Rattle.rules.specs.Areas.{areas, before, after};
 ghost use Rattle.rules.specs.Shape.{Shaped};
 ghost use Rattle.rules.specs.Steps.{compactStep, checkpointed};
-ghost use Rattle.onlinecheck.specs.Marks.{markPages};
+ghost use Rattle.table.specs.Marks.{markPages};
 ghost use Rattle.checkpoint.specs.Noted.{Noted};
-ghost use Rattle.checkpoint.specs.After.{After};
+ghost use Rattle.checkpoint.specs.Halfway.{Halfway};
 use compact::Compacted;
 use number::PageNo;
 
@@ -56,10 +57,10 @@ fn marked_step(
     max_age: u64,
     seen: &[u8],
 ) -> Compacted
-    requires { ⌜ Shaped (lentOf (now fixed) (now marks) (now log) (now stored) (now tables) (now online) (now pool)) × (p .0 < pagesOf (lentOf (now fixed) (now marks) (now log) (now stored) (now tables) (now online) (now pool))) × Noted (now seen) (lentOf (now fixed) (now marks) (now log) (now stored) (now tables) (now online) (now pool)) ⌝ }
-    ensures reads { λ r. ⌜ r .reads ≡ compactStep «min_del» «max_age» (lentOf (now (fixed .entry)) (now (marks .entry)) (now (log .entry)) (now (stored .entry)) (now (tables .entry)) (now (online .entry)) (now (pool .entry))) (p .0) .reads ⌝ }
-    ensures writes { λ r. ⌜ r .writes ≡ compactStep «min_del» «max_age» (lentOf (now (fixed .entry)) (now (marks .entry)) (now (log .entry)) (now (stored .entry)) (now (tables .entry)) (now (online .entry)) (now (pool .entry))) (p .0) .writes ⌝ }
-    ensures lent { λ r. ⌜ lentOf (now (fixed .entry)) (now (marks .exit)) (now (log .entry)) (now (stored .exit)) (now (tables .exit)) (now (online .exit)) (now (pool .entry)) ≡ compactStep «min_del» «max_age» (lentOf (now (fixed .entry)) (now (marks .entry)) (now (log .entry)) (now (stored .entry)) (now (tables .entry)) (now (online .entry)) (now (pool .entry))) (p .0) .lent ⌝ }
+    requires { ⌜ Shaped (areas fixed marks log stored tables online pool) × (p .0 < pagesOf (areas fixed marks log stored tables online pool)) × Noted (now seen) (areas fixed marks log stored tables online pool) ⌝ }
+    ensures reads { λ r. ⌜ r .reads ≡ compactStep «min_del» «max_age» (before fixed marks log stored tables online pool) (p .0) .reads ⌝ }
+    ensures writes { λ r. ⌜ r .writes ≡ compactStep «min_del» «max_age» (before fixed marks log stored tables online pool) (p .0) .writes ⌝ }
+    ensures lent { λ r. ⌜ after fixed marks log stored tables online pool ≡ compactStep «min_del» «max_age» (before fixed marks log stored tables online pool) (p .0) .lent ⌝ }
 {
     let at = p.0;
     if seen[at] != 1 {
@@ -95,8 +96,8 @@ fn compact_all(
     max_age: u64,
     seen: &[u8],
 ) -> Compacted
-    requires { ⌜ Shaped (lentOf (now fixed) (now marks) (now log) (now stored) (now tables) (now online) (now pool)) × (loggedOf (lentOf (now fixed) (now marks) (now log) (now stored) (now tables) (now online) (now pool)) ≤ lastOf (lentOf (now fixed) (now marks) (now log) (now stored) (now tables) (now online) (now pool))) × Noted (now seen) (lentOf (now fixed) (now marks) (now log) (now stored) (now tables) (now online) (now pool)) ⌝ }
-    ensures { λ r. ⌜ After «min_del» «max_age» (lentOf (now (fixed .entry)) (now (marks .entry)) (now (log .entry)) (now (stored .entry)) (now (tables .entry)) (now (online .entry)) (now (pool .entry))) (lentOf (now (fixed .entry)) (now (marks .exit)) (now (log .entry)) (now (stored .exit)) (now (tables .exit)) (now (online .exit)) (now (pool .entry))) (r .reads) (r .writes) (pagesOf (lentOf (now (fixed .entry)) (now (marks .entry)) (now (log .entry)) (now (stored .entry)) (now (tables .entry)) (now (online .entry)) (now (pool .entry)))) ⌝ }
+    requires { ⌜ Shaped (areas fixed marks log stored tables online pool) × (loggedOf (areas fixed marks log stored tables online pool) ≤ lastOf (areas fixed marks log stored tables online pool)) × Noted (now seen) (areas fixed marks log stored tables online pool) ⌝ }
+    ensures { λ r. ⌜ Halfway «min_del» «max_age» (before fixed marks log stored tables online pool) (after fixed marks log stored tables online pool) (r .reads) (r .writes) (pagesOf (before fixed marks log stored tables online pool)) ⌝ }
 {
     let pages = word::load(fixed, 4, 4) as usize;
     let mut reads: u32 = 0;
@@ -136,10 +137,10 @@ pub fn checkpoint(
     min_del: u64,
     max_age: u64,
 ) -> Compacted
-    requires { ⌜ Shaped (lentOf (now fixed) (now marks) (now log) (now stored) (now tables) (now online) (now pool)) × (loggedOf (lentOf (now fixed) (now marks) (now log) (now stored) (now tables) (now online) (now pool)) ≤ lastOf (lentOf (now fixed) (now marks) (now log) (now stored) (now tables) (now online) (now pool))) ⌝ }
-    ensures reads { λ r. ⌜ r .reads ≡ checkpointed «min_del» «max_age» (lentOf (now (fixed .entry)) (now (marks .entry)) (now (log .entry)) (now (stored .entry)) (now (tables .entry)) (now (online .entry)) (now (pool .entry))) .reads ⌝ }
-    ensures writes { λ r. ⌜ r .writes ≡ checkpointed «min_del» «max_age» (lentOf (now (fixed .entry)) (now (marks .entry)) (now (log .entry)) (now (stored .entry)) (now (tables .entry)) (now (online .entry)) (now (pool .entry))) .writes ⌝ }
-    ensures lent { λ r. ⌜ lentOf (now (fixed .entry)) (now (marks .exit)) (now (log .exit)) (now (stored .exit)) (now (tables .exit)) (now (online .exit)) (now (pool .entry)) ≡ checkpointed «min_del» «max_age» (lentOf (now (fixed .entry)) (now (marks .entry)) (now (log .entry)) (now (stored .entry)) (now (tables .entry)) (now (online .entry)) (now (pool .entry))) .lent ⌝ }
+    requires { ⌜ Shaped (areas fixed marks log stored tables online pool) × (loggedOf (areas fixed marks log stored tables online pool) ≤ lastOf (areas fixed marks log stored tables online pool)) ⌝ }
+    ensures reads { λ r. ⌜ r .reads ≡ checkpointed «min_del» «max_age» (before fixed marks log stored tables online pool) .reads ⌝ }
+    ensures writes { λ r. ⌜ r .writes ≡ checkpointed «min_del» «max_age» (before fixed marks log stored tables online pool) .writes ⌝ }
+    ensures lent { λ r. ⌜ after fixed marks log stored tables online pool ≡ checkpointed «min_del» «max_age» (before fixed marks log stored tables online pool) .lent ⌝ }
 {
     let m = word::load(tables, 0, 2) as usize;
     let mut seen = [0u8; 1024];

@@ -10,12 +10,10 @@ use lib.Seq.{set-out, length-take-le}
 use lib.Dec.{eqb, leb}
 use borrow.Author.Tests.{eq-eqb, ne-eqb, leb-true, leb-false}
 use Rattle.word.specs.Word.{num, put}
-use Rattle.word.proofs.Laws.{length-put}
 use Rattle.record.specs.Part.{withPart}
 use Rattle.record.specs.Rows.{rowAt, rows, table, keep, consIf}
 use Rattle.record.specs.Record.{pageOf, ownerOf, numberOf, committed, lesser, smallest}
-use Rattle.record.proofs.Laws.{either-length}
-use Rattle.table.proofs.Laws.{rows-more, rows-end, rows-start, length-rows}
+use Rattle.record.proofs.Rows.{rows-more, rows-end, rows-start, length-rows}
 use Rattle.table.proofs.Moves.{lent-back}
 use Rattle.rules.specs.Lent.{Lent, lentOf, dirtyAt}
 use Rattle.rules.specs.Steps.{lowered, droppedBy, closed}
@@ -42,13 +40,6 @@ pub row-lowers : (pages i p k : ℕ) (t ms ms′ : List ℕ) → ownerOf (rowAt 
     → ms′ ≡ put 4 ms (dirtyAt pages p) (lesser (num 4 ms (dirtyAt pages p)) k) → ms′ ≡ lowered pages (rows 19 1 t i) ms
 unfolding lowered rows
 row-lowers pages i p k t ms ms′ h ep ek e = rw (eq-eqb (ownerOf (rowAt 19 t i)) 0 h, ← ep, ← ek) e
-
--- a dirty number that is lowered leaves the length
-pub length-lowered : (pages : ℕ) (rs : List (List ℕ)) (ms : List ℕ) → length (lowered pages rs ms) ≡ length ms
-unfolding lowered
-length-lowered pages [] ms = refl
-length-lowered pages (r ∷ rs) ms =
-    length-lowered pages rs _ ∙ either-length (committed r) (length ms) _ ms (length-put 4 ms (dirtyAt pages (pageOf r)) (lesser (num 4 ms (dirtyAt pages (pageOf r))) (numberOf r))) refl
 
 -- `lower_all`: none, a turn and the end
 pub lowered-none : (pages m : ℕ) (t ms : List ℕ) → lowered pages (rows 19 (m - 0) t 0) ms ≡ lowered pages (rows 19 m t 0) ms

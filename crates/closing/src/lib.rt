@@ -8,7 +8,8 @@ ghost use Rattle.word.specs.Word.{num, put};
 ghost use Rattle.record.specs.Part.{withPart};
 ghost use Rattle.record.specs.Rows.{rows, table, keep};
 ghost use Rattle.record.specs.Record.{committed, lesser, smallest};
-ghost use Rattle.rules.specs.Lent.{lentOf, lastOf, loggedOf, dirtyAt};
+ghost use Rattle.rules.specs.Lent.{lastOf, loggedOf, dirtyAt};
+ghost use Rattle.rules.specs.Areas.{areas, before, after};
 ghost use Rattle.rules.specs.Shape.{Shaped};
 ghost use Rattle.rules.specs.Steps.{lowered, closed};
 use number::LogNo;
@@ -186,8 +187,8 @@ pub fn close(
     online: &[u8],
     pool: &[u8],
 )
-    requires { ⌜ Shaped (lentOf (now fixed) (now marks) (now log) (now stored) (now tables) (now online) (now pool)) × (loggedOf (lentOf (now fixed) (now marks) (now log) (now stored) (now tables) (now online) (now pool)) ≤ lastOf (lentOf (now fixed) (now marks) (now log) (now stored) (now tables) (now online) (now pool))) ⌝ }
-    ensures { λ r. ⌜ lentOf (now (fixed .entry)) (now (marks .exit)) (now (log .exit)) (now (stored .entry)) (now (tables .entry)) (now (online .entry)) (now (pool .entry)) ≡ closed (lentOf (now (fixed .entry)) (now (marks .entry)) (now (log .entry)) (now (stored .entry)) (now (tables .entry)) (now (online .entry)) (now (pool .entry))) .lent ⌝ }
+    requires { ⌜ Shaped (areas fixed marks log stored tables online pool) × (loggedOf (areas fixed marks log stored tables online pool) ≤ lastOf (areas fixed marks log stored tables online pool)) ⌝ }
+    ensures { λ r. ⌜ after fixed marks log stored tables online pool ≡ closed (before fixed marks log stored tables online pool) .lent ⌝ }
 {
     let m = word::load(tables, 0, 2) as usize;
     let x = smallest_committed(online, m);

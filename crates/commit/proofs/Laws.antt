@@ -13,7 +13,7 @@ use Rattle.record.specs.Rows.{rows, joined, table, keep}
 use Rattle.record.specs.Record.{bodyOf, ownedBy, numberRows}
 use Rattle.record.proofs.Laws.{drop-zeros}
 use Rattle.rules.proofs.Every.{zeros-are}
-use Rattle.table.proofs.Laws.{sub-mul, joined-all, joined-append, length-rows, length-number, keep-length}
+use Rattle.record.proofs.Rows.{sub-mul, joined-all, joined-append, length-rows, length-number, keep-length}
 use Rattle.rules.specs.Sound.{zeros}
 use Rattle.rules.specs.Lent.{Lent, lentOf, liveAt}
 use Rattle.rules.specs.Steps.{committing}

@@ -8,7 +8,8 @@ ghost use lib.Dec.{eqb};
 ghost use Rattle.word.specs.Word.{num, put};
 ghost use Rattle.record.specs.Rows.{rows, joined, keep};
 ghost use Rattle.record.specs.Record.{ownedBy, bodyOf, numberRows};
-ghost use Rattle.rules.specs.Lent.{lentOf, spanOf, lastOf, loggedOf, countOf, liveAt};
+ghost use Rattle.rules.specs.Lent.{logSizeOf, lastOf, loggedOf, countOf, liveAt};
+ghost use Rattle.rules.specs.Areas.{areas, before, after};
 ghost use Rattle.rules.specs.Shape.{Shaped};
 ghost use Rattle.rules.specs.Sound.{zeros};
 ghost use Rattle.rules.specs.Steps.{owned, committing};
@@ -66,8 +67,8 @@ pub fn commit(
     pool: &[u8],
     owner: u8,
 ) -> u32
-    requires { ⌜ Shaped (lentOf (now fixed) (now marks) (now log) (now stored) (now tables) (now online) (now pool)) × (1 ≤ owner) × (owner ≤ 32) × (loggedOf (lentOf (now fixed) (now marks) (now log) (now stored) (now tables) (now online) (now pool)) + length (owned (lentOf (now fixed) (now marks) (now log) (now stored) (now tables) (now online) (now pool)) owner) ≤ spanOf (lentOf (now fixed) (now marks) (now log) (now stored) (now tables) (now online) (now pool))) × (lastOf (lentOf (now fixed) (now marks) (now log) (now stored) (now tables) (now online) (now pool)) + length (owned (lentOf (now fixed) (now marks) (now log) (now stored) (now tables) (now online) (now pool)) owner) ≤ 4294967295) × (zeros (drop (countOf (lentOf (now fixed) (now marks) (now log) (now stored) (now tables) (now online) (now pool)) * 19) (now online)) ≡ true) × (zeros (drop (loggedOf (lentOf (now fixed) (now marks) (now log) (now stored) (now tables) (now online) (now pool)) * 14) (now log)) ≡ true) ⌝ }
-    ensures { λ r. ⌜ (r ≡ committing (lentOf (now (fixed .entry)) (now (marks .entry)) (now (log .entry)) (now (stored .entry)) (now (tables .entry)) (now (online .entry)) (now (pool .entry))) owner .logs) × (lentOf (now (fixed .entry)) (now (marks .exit)) (now (log .exit)) (now (stored .entry)) (now (tables .exit)) (now (online .exit)) (now (pool .entry)) ≡ committing (lentOf (now (fixed .entry)) (now (marks .entry)) (now (log .entry)) (now (stored .entry)) (now (tables .entry)) (now (online .entry)) (now (pool .entry))) owner .lent) ⌝ }
+    requires { ⌜ Shaped (areas fixed marks log stored tables online pool) × (1 ≤ owner) × (owner ≤ 32) × (loggedOf (areas fixed marks log stored tables online pool) + length (owned (areas fixed marks log stored tables online pool) owner) ≤ logSizeOf (areas fixed marks log stored tables online pool)) × (lastOf (areas fixed marks log stored tables online pool) + length (owned (areas fixed marks log stored tables online pool) owner) ≤ 4294967295) × (zeros (drop (countOf (areas fixed marks log stored tables online pool) * 19) (now online)) ≡ true) × (zeros (drop (loggedOf (areas fixed marks log stored tables online pool) * 14) (now log)) ≡ true) ⌝ }
+    ensures { λ r. ⌜ (r ≡ committing (before fixed marks log stored tables online pool) owner .logs) × (after fixed marks log stored tables online pool ≡ committing (before fixed marks log stored tables online pool) owner .lent) ⌝ }
 {
     let m = word::load(tables, 0, 2) as usize;
     let k = commit_rows(marks, log, online, m, owner);

@@ -18,7 +18,7 @@ use Rattle.table.specs.Seen.{Surveyed}
 use Rattle.table.proofs.Laws.{keep-rows-between}
 use Rattle.table.specs.declared.page.Survey.{Survey}
 use Rattle.order.specs.Order.{without}
-use Rattle.rules.specs.Lent.{Lent, lentOf, sizeOf, pagesOf, framesOf, roomOf, countOf, stampAt, orderOf, entryAt, entryOf, onlineOf, inFrame, frameOf, pageIn, withPage, withOrder, withCount}
+use Rattle.rules.specs.Lent.{Lent, lentOf, sizeOf, pagesOf, framesOf, onlineSizeOf, countOf, stampAt, orderOf, entryAt, entryOf, onlineOf, inFrame, frameOf, pageIn, withPage, withOrder, withCount}
 use Rattle.rules.specs.Shape.{Shaped}
 use Rattle.rules.specs.Steps.{due, foldable, fromFrame, compactedPage, compactedEntry, compactedOrder, unfolded, compacted, compactStep}
 use Rattle.compact.specs.declared.Plan.{Plan}
@@ -157,7 +157,7 @@ module _ (fixed marks log stored tables online pool : List ℕ) (p : ℕ) (z : S
       → l ≡ withCount (length (unfolded lent p)) (withOrder (framesOf lent) (compactedOrder lent p) (set tables (entryAt (framesOf lent) p) (compactedEntry lent p)))
   tables-done l e = e ∙ (rw (m .frames, m .count, entry, order-done))
 
-  online-done : (l : List ℕ) → l ≡ table 19 (z .room) (keep (λ (x : List ℕ). not (gone false 0 p x)) (rows 19 (z .count) online 0)) → l ≡ table 19 (roomOf lent) (unfolded lent p)
+  online-done : (l : List ℕ) → l ≡ table 19 (z .room) (keep (λ (x : List ℕ). not (gone false 0 p x)) (rows 19 (z .count) online 0)) → l ≡ table 19 (onlineSizeOf lent) (unfolded lent p)
   online-done l e = e ∙ (rw (m .room, m .count))
 
   pub lent-done : (v : Survey) → Surveyed p (num 2 tables 0) online v → (marks′ stored′ tables′ online′ : List ℕ)

@@ -1,7 +1,7 @@
 -- Compact keeps the shape of the lent tables, L, n and what is fixed.
 use Prim.Native.Nat.{ℕ, _+_, _*_, _/_, _≤_, _<_}
 use native.Mathlib.Omega.{arith}
-use mathlib.Core.Path.{_≡_, refl, ap, _∙_}
+use mathlib.Core.Path.{_≡_, ap, _∙_}
 use mathlib.Core.Bool.{Bool, true, false, cond, not}
 use mathlib.Core.List.{List, [], _∷_}
 use lib.ListN.{length, getD, take, set, length-set}
@@ -15,11 +15,11 @@ use Rattle.record.specs.Rows.{rows, table, consIf, keep}
 use Rattle.record.specs.Record.{onPage, committedOn, gone, greatest, applied}
 use Rattle.record.proofs.Parts.{length-part, length-with, part-set, one-fits}
 use Rattle.record.proofs.Laws.{either-length}
-use Rattle.apply.proofs.Laws.{length-applied}
-use Rattle.table.proofs.Laws.{keep-length, length-rows, wide-all, wide-keep, rows-table, length-kept-table}
+use Rattle.record.proofs.Changes.{length-applied}
+use Rattle.record.proofs.Rows.{keep-length, length-rows, wide-all, wide-keep, rows-table, length-kept-table}
 use Rattle.order.specs.Order.{without}
 use Rattle.order.proofs.Laws.{length-without}
-use Rattle.rules.specs.Lent.{Lent, sizeOf, pagesOf, framesOf, roomOf, lastOf, loggedOf, countOf, usedOf, stampAt, orderOf, entryAt, entryOf, entriesOf, onlineOf, inFrame, frameOf, cleanIn, pageIn, withPage, withOrder, withCount}
+use Rattle.rules.specs.Lent.{Lent, sizeOf, pagesOf, framesOf, onlineSizeOf, countOf, usedOf, stampAt, orderOf, entryAt, entryOf, entriesOf, onlineOf, inFrame, frameOf, cleanIn, pageIn, withPage, withOrder, withCount}
 use Rattle.rules.specs.Sound.{every}
 use Rattle.rules.specs.Shape.{Shaped}
 use Rattle.rules.specs.Steps.{due, foldable, fromFrame, compactedPage, compactedEntry, compactedOrder, unfolded, compacted, compactStep}
@@ -27,18 +27,6 @@ use Rattle.rules.proofs.Tables.{tables-length, tables-count, tables-used, table
 use Rattle.rules.proofs.Every.{every-set, every-without}
 
 -- what is fixed, L and n
-pub fixed-compact : (s : Lent) (p : ℕ) → compacted s p .lent .durable .fixed ≡ s .durable .fixed
-unfolding compacted
-fixed-compact s p = refl
-
-pub last-compact : (s : Lent) (p : ℕ) → lastOf (compacted s p .lent) ≡ lastOf s
-unfolding compacted
-last-compact s p = num-put-below 4 4 (s .durable .marks) (stampAt p) (greatest 0 (foldable s p)) 0 (omega arith)
-
-pub logged-compact : (s : Lent) (p : ℕ) → loggedOf (compacted s p .lent) ≡ loggedOf s
-unfolding compacted
-logged-compact s p = num-put-below 4 4 (s .durable .marks) (stampAt p) (greatest 0 (foldable s p)) 8 (omega arith)
-
 -- an entry that compact writes names a frame, or none
 clean-below : (b c : Bool) (e frames : ℕ) → 1 ≤ frames → e / 2 ≤ frames → cond b (cleanIn (frameOf e)) (cond c 0 1) / 2 ≤ frames
 clean-below true c e frames h k = omega arith
@@ -111,7 +99,7 @@ module _ (s : Lent) (p : ℕ) (w : Shaped s) (h : p < pagesOf s) where
   left-count = omega (arith, keep-length (λ (r : List ℕ). not (gone false 0 p r)) (onlineOf s), length-rows 19 (countOf s) (s .lost .online) 0)
 
   left-small : length (unfolded s p) < 65536
-  left-small = omega (arith, left-count, w .count, w .sized .room)
+  left-small = omega (arith, left-count, w .count, w .sized .online-size)
 
   written : List ℕ
   written = withCount (length (unfolded s p)) (withOrder (framesOf s) (compactedOrder s p) entered)
@@ -134,7 +122,7 @@ module _ (s : Lent) (p : ℕ) (w : Shaped s) (h : p < pagesOf s) where
   unfolding written
   written-entries = ap (λ (l : List ℕ). take (pagesOf s) l) (tables-behind (framesOf s) (compactedOrder s p) entered entered-room (length (unfolded s p)))
 
-  online-length : length (s .lost .online) ≡ roomOf s * 19
+  online-length : length (s .lost .online) ≡ onlineSizeOf s * 19
   online-length = omega (arith, w .sized .online)
 
   pub shaped-compact : Shaped (compacted s p .lent)
@@ -151,13 +139,13 @@ module _ (s : Lent) (p : ℕ) (w : Shaped s) (h : p < pagesOf s) where
               pages = z .pages;
               frames-least = z .frames-least;
               frames = z .frames;
-              room = z .room;
-              span = z .span;
+              online-size = z .online-size;
+              log-size = z .log-size;
               marks = length-put 4 (s .durable .marks) (stampAt p) (greatest 0 (foldable s p)) ∙ z .marks;
               log = z .log;
               stored = stored-length;
               tables = tables-length (framesOf s) (compactedOrder s p) entered entered-room (length (unfolded s p)) ∙ entered-length;
-              online = length-kept-table (λ (r : List ℕ). not (gone false 0 p r)) (countOf s) (roomOf s) (s .lost .online) (w .count) online-length ∙ omega arith;
+              online = length-kept-table (λ (r : List ℕ). not (gone false 0 p r)) (countOf s) (onlineSizeOf s) (s .lost .online) (w .count) online-length ∙ omega arith;
               pool = z .pool;
             };
         logged = rw (num-put-below 4 4 (s .durable .marks) (stampAt p) (greatest 0 (foldable s p)) 8 (omega arith)) (w .logged);
@@ -171,8 +159,8 @@ module _ (s : Lent) (p : ℕ) (w : Shaped s) (h : p < pagesOf s) where
   pub online-compact : onlineOf (compacted s p .lent) ≡ unfolded s p
   unfolding compacted written entered
   online-compact =
-      ap (λ (n : ℕ). rows 19 n (table 19 (roomOf s) (unfolded s p)) 0) written-count
-      ∙ rows-table (roomOf s) (wide-keep (λ (r : List ℕ). not (gone false 0 p r)) (wide-all 19 (countOf s) (s .lost .online) (omega (arith, w .count, w .sized .online))))
+      ap (λ (n : ℕ). rows 19 n (table 19 (onlineSizeOf s) (unfolded s p)) 0) written-count
+      ∙ rows-table (onlineSizeOf s) (wide-keep (λ (r : List ℕ). not (gone false 0 p r)) (wide-all 19 (countOf s) (s .lost .online) (omega (arith, w .count, w .sized .online))))
 
 -- of fewer rows no more pass a test
 more-kept : (t : Bool) (r : List ℕ) (k l : List (List ℕ)) → length k ≤ length l → length (consIf t r k) ≤ length (consIf t r l)
@@ -194,30 +182,6 @@ kept-fewer b d (r ∷ l) = pick (b r) (kept-fewer b d l)
 
 -- and so as a step
 module _ (minDel maxAge : ℕ) (s : Lent) (p : ℕ) where
-  pub fixed-step : compactStep minDel maxAge s p .lent .durable .fixed ≡ s .durable .fixed
-  unfolding compactStep
-  fixed-step = go (due s p minDel maxAge)
-    where
-      go : (b : Bool) → cond b (compacted s p) (record { lent = s; reads = 0; writes = 0; logs = 0 }) .lent .durable .fixed ≡ s .durable .fixed
-      go true = fixed-compact s p
-      go false = refl
-
-  pub last-step : lastOf (compactStep minDel maxAge s p .lent) ≡ lastOf s
-  unfolding compactStep
-  last-step = go (due s p minDel maxAge)
-    where
-      go : (b : Bool) → lastOf (cond b (compacted s p) (record { lent = s; reads = 0; writes = 0; logs = 0 }) .lent) ≡ lastOf s
-      go true = last-compact s p
-      go false = refl
-
-  pub logged-step : loggedOf (compactStep minDel maxAge s p .lent) ≡ loggedOf s
-  unfolding compactStep
-  logged-step = go (due s p minDel maxAge)
-    where
-      go : (b : Bool) → loggedOf (cond b (compacted s p) (record { lent = s; reads = 0; writes = 0; logs = 0 }) .lent) ≡ loggedOf s
-      go true = logged-compact s p
-      go false = refl
-
   pub shaped-step : Shaped s → p < pagesOf s → Shaped (compactStep minDel maxAge s p .lent)
   unfolding compactStep
   shaped-step w h = go (due s p minDel maxAge)

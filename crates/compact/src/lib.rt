@@ -13,7 +13,8 @@ ghost use Rattle.order.specs.Order.{without};
 ghost use Rattle.order.specs.Meant.{listOf};
 ghost use Rattle.table.specs.Before.{NoneBefore, NoneFrom};
 ghost use Rattle.table.specs.Seen.{Surveyed};
-ghost use Rattle.rules.specs.Lent.{lentOf, pagesOf, countOf, pageIn, withPage, withOrder, withCount, entryAt};
+ghost use Rattle.rules.specs.Lent.{pagesOf, countOf, pageIn, withPage, withOrder, withCount, entryAt};
+ghost use Rattle.rules.specs.Areas.{areas, before, after};
 ghost use Rattle.rules.specs.Shape.{Shaped};
 ghost use Rattle.rules.specs.Steps.{compacted, compactStep};
 ghost use Rattle.compact.specs.Planned.{Measured, Planned};
@@ -227,10 +228,10 @@ fn compact_by(
     p: PageNo,
     s: Survey,
 ) -> Compacted
-    requires { ⌜ Shaped (lentOf (now fixed) (now marks) (now log) (now stored) (now tables) (now online) (now pool)) × (p .0 < pagesOf (lentOf (now fixed) (now marks) (now log) (now stored) (now tables) (now online) (now pool))) × Surveyed (p .0) (countOf (lentOf (now fixed) (now marks) (now log) (now stored) (now tables) (now online) (now pool))) (now online) s ⌝ }
-    ensures reads { λ r. ⌜ r .reads ≡ compacted (lentOf (now (fixed .entry)) (now (marks .entry)) (now (log .entry)) (now (stored .entry)) (now (tables .entry)) (now (online .entry)) (now (pool .entry))) (p .0) .reads ⌝ }
-    ensures writes { λ r. ⌜ r .writes ≡ compacted (lentOf (now (fixed .entry)) (now (marks .entry)) (now (log .entry)) (now (stored .entry)) (now (tables .entry)) (now (online .entry)) (now (pool .entry))) (p .0) .writes ⌝ }
-    ensures lent { λ r. ⌜ lentOf (now (fixed .entry)) (now (marks .exit)) (now (log .entry)) (now (stored .exit)) (now (tables .exit)) (now (online .exit)) (now (pool .entry)) ≡ compacted (lentOf (now (fixed .entry)) (now (marks .entry)) (now (log .entry)) (now (stored .entry)) (now (tables .entry)) (now (online .entry)) (now (pool .entry))) (p .0) .lent ⌝ }
+    requires { ⌜ Shaped (areas fixed marks log stored tables online pool) × (p .0 < pagesOf (areas fixed marks log stored tables online pool)) × Surveyed (p .0) (countOf (areas fixed marks log stored tables online pool)) (now online) s ⌝ }
+    ensures reads { λ r. ⌜ r .reads ≡ compacted (before fixed marks log stored tables online pool) (p .0) .reads ⌝ }
+    ensures writes { λ r. ⌜ r .writes ≡ compacted (before fixed marks log stored tables online pool) (p .0) .writes ⌝ }
+    ensures lent { λ r. ⌜ after fixed marks log stored tables online pool ≡ compacted (before fixed marks log stored tables online pool) (p .0) .lent ⌝ }
 {
     let z = measure(fixed, tables);
     let plan = plan_for(tables, z, p, s);
@@ -266,10 +267,10 @@ pub fn compact_step(
     min_del: u64,
     max_age: u64,
 ) -> Compacted
-    requires { ⌜ Shaped (lentOf (now fixed) (now marks) (now log) (now stored) (now tables) (now online) (now pool)) × (p .0 < pagesOf (lentOf (now fixed) (now marks) (now log) (now stored) (now tables) (now online) (now pool))) ⌝ }
-    ensures reads { λ r. ⌜ r .reads ≡ compactStep «min_del» «max_age» (lentOf (now (fixed .entry)) (now (marks .entry)) (now (log .entry)) (now (stored .entry)) (now (tables .entry)) (now (online .entry)) (now (pool .entry))) (p .0) .reads ⌝ }
-    ensures writes { λ r. ⌜ r .writes ≡ compactStep «min_del» «max_age» (lentOf (now (fixed .entry)) (now (marks .entry)) (now (log .entry)) (now (stored .entry)) (now (tables .entry)) (now (online .entry)) (now (pool .entry))) (p .0) .writes ⌝ }
-    ensures lent { λ r. ⌜ lentOf (now (fixed .entry)) (now (marks .exit)) (now (log .entry)) (now (stored .exit)) (now (tables .exit)) (now (online .exit)) (now (pool .entry)) ≡ compactStep «min_del» «max_age» (lentOf (now (fixed .entry)) (now (marks .entry)) (now (log .entry)) (now (stored .entry)) (now (tables .entry)) (now (online .entry)) (now (pool .entry))) (p .0) .lent ⌝ }
+    requires { ⌜ Shaped (areas fixed marks log stored tables online pool) × (p .0 < pagesOf (areas fixed marks log stored tables online pool)) ⌝ }
+    ensures reads { λ r. ⌜ r .reads ≡ compactStep «min_del» «max_age» (before fixed marks log stored tables online pool) (p .0) .reads ⌝ }
+    ensures writes { λ r. ⌜ r .writes ≡ compactStep «min_del» «max_age» (before fixed marks log stored tables online pool) (p .0) .writes ⌝ }
+    ensures lent { λ r. ⌜ after fixed marks log stored tables online pool ≡ compactStep «min_del» «max_age» (before fixed marks log stored tables online pool) (p .0) .lent ⌝ }
 {
     let m = word::load(tables, 0, 2) as usize;
     let s = table::survey(online, m, p);

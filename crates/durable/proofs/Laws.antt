@@ -1,4 +1,4 @@
--- Laws of the turns of the checking loops, of tests joined in a row, of the ranges and the lengths, and what the durable part's soundness gives.
+-- Laws of the turns of the checking loops, and what each check of the durable part found.
 use Prim.Native.Nat.{ℕ, zero, suc, _+_, _*_, _-_, _%_, _^_, _≤_, _<_}
 use native.Mathlib.Omega.{arith}
 use native.Mathlib.Numerals.{add-one}
@@ -10,82 +10,18 @@ use lib.ListN.{length, getD, take, drop, length-drop, drop-of-length-le}
 use lib.Seq.{drop-cons, take-all}
 use lib.Dec.{eqb, leb, ltb, leb·suc-suc}
 use borrow.Author.Tests.{eqb-true, eqb-false, leb-true, eq-eqb, ne-eqb, le-leb, lt-leb, lt-ltb, le-ltb, ltb-true, ltb-false}
-use Rattle.word.proofs.Tests.{and-both, among-four, so, not-so}
-use Rattle.record.specs.Rows.{rowAt, rows}
+use Rattle.word.proofs.Tests.{and-both, and-three, so, not-so}
+use Rattle.record.specs.Rows.{rows}
 use Rattle.record.proofs.Laws.{at-length}
 use Rattle.record.specs.Record.{pageOf, offsetOf, lengthOf, kindOf, valueOf, isLength, wellFormed}
 use Rattle.word.specs.Word.{num}
-use Rattle.rules.specs.Lent.{Lent, sizeOf, pagesOf, framesOf, roomOf, spanOf, lastOf, loggedOf, logOf, dirtyAt}
-use Rattle.rules.specs.Sound.{every, upTo, zeros, between, isPageSize, inRange, exactLengths, s1-parameters, s2-lengths, s3-logged, s16-logged, s18-first, s15-stamps, s17-s19-dirty, s7-log-records, s14-log-zero, soundDurable}
-use Rattle.rules.specs.Shape.{Sized}
-use Rattle.rules.proofs.Clauses.{upTo-same, upTo-both}
+use Rattle.rules.specs.declared.Params.{Params}
+use Rattle.rules.specs.Lent.{Lent, dirtyAt}
+use Rattle.rules.specs.Sound.{every, upTo, zeros, between, inRange, exactLengths, s1-parameters, s2-lengths, s3-logged, s16-logged, s18-first, s15-stamps, s17-s19-dirty, s7-log-records, s14-log-zero, soundDurable}
+use Rattle.rules.proofs.Walks.{upTo-alike, upTo-both}
 use Rattle.durable.specs.Limits.{placesOf, mostValues}
 use Rattle.durable.specs.Marks.{isRecord, soundCounts, numberWithin, soundStamps, soundDirty, dirtyFrom, dirtyWithin, soundDirties, soundMarks}
-use Rattle.durable.specs.Ranges.{Ranged}
-
--- tests in a row
-and-three : (a b c : Bool) → (a && b && c) ≡ true → (a ≡ true) × (b ≡ true) × (c ≡ true)
-and-three a b c h =
-    let x = and-both (a && b) c h in
-    let y = and-both a b (x .0) in
-    (y .0, y .1, x .1)
-
-and-five : (a b c d e : Bool) → (a && b && c && d && e) ≡ true → (a ≡ true) × (b ≡ true) × (c ≡ true) × (d ≡ true) × (e ≡ true)
-and-five a b c d e h =
-    let x = and-three (a && b && c) d e h in
-    let y = and-three a b c (x .0) in
-    (y .0, y .1, y .2, x .1, x .2)
-
-and-six : (a b c d e f : Bool) → (a && b && c && d && e && f) ≡ true → (a ≡ true) × (b ≡ true) × (c ≡ true) × (d ≡ true) × (e ≡ true) × (f ≡ true)
-and-six a b c d e f h =
-    let x = and-both (a && b && c && d && e) f h in
-    let y = and-five a b c d e (x .0) in
-    (y .0, y .1, y .2, y .3, y .4, x .1)
-
-and-nine : (a b c d e f g h i : Bool) → (a && b && c && d && e && f && g && h && i) ≡ true → (a ≡ true) × (b ≡ true) × (c ≡ true) × (d ≡ true) × (e ≡ true) × (f ≡ true) × (g ≡ true) × (h ≡ true) × (i ≡ true)
-and-nine a b c d e f g h i k =
-    let x = and-five (a && b && c && d && e) f g h i k in
-    let y = and-five a b c d e (x .0) in
-    (y .0, y .1, y .2, y .3, y .4, x .1, x .2, x .3, x .4)
-
--- a loop over n numbers that joins what each test found: none looked at yet, a turn and the end
-pub upTo-none : (b : ℕ → Bool) (n : ℕ) → upTo b (n - 0) 0 ≡ upTo b n 0
-upTo-none b n = let e : n - 0 ≡ n = omega arith in rw e
-
-pub upTo-turn : (b : ℕ → Bool) (n i : ℕ) (ok r x : Bool) → i < n → r ≡ b i → (ok && upTo b (n - i) i) ≡ x → (ok && r && upTo b (n - (i + 1)) (i + 1)) ≡ x
-unfolding upTo
-upTo-turn b n i ok r x p h inv =
-    let e : n - i ≡ suc (n - (i + 1)) = omega arith in
-    rw h (and-assoc ok (b i) (upTo b (n - (i + 1)) (i + 1)) ∙ (rw e at inv))
-
-pub upTo-done : (b : ℕ → Bool) (n i : ℕ) (ok x : Bool) → n ≤ i → (ok && upTo b (n - i) i) ≡ x → ok ≡ x
-unfolding upTo
-upTo-done b n i ok x p inv =
-    let e : n - i ≡ 0 = omega arith in
-    sym (and-true ok) ∙ (rw e at inv)
-
--- a loop over n rows of a table that stops at the first that fails
-module _ (b : List ℕ → Bool) (w : ℕ) (t : List ℕ) (n : ℕ) where
-  pub rows-none : every b (rows w (n - 0) t 0) ≡ every b (rows w n t 0)
-  rows-none = let e : n - 0 ≡ n = omega arith in rw e
-
-  pub rows-turn : (i : ℕ) (x : Bool) {r : Bool} → i < n → r ≡ b (rowAt w t i) → not r ≡ false → every b (rows w (n - i) t i) ≡ x → every b (rows w (n - (i + 1)) t (i + 1)) ≡ x
-  unfolding rows every
-  rows-turn i x p f g inv =
-      let e : n - i ≡ suc (n - (i + 1)) = omega arith in
-      rw (e, so _ _ f g) at inv
-
-  pub rows-stop : (i : ℕ) (x : Bool) {r : Bool} → i < n → r ≡ b (rowAt w t i) → not r ≡ true → every b (rows w (n - i) t i) ≡ x → false ≡ x
-  unfolding rows every
-  rows-stop i x p f g inv =
-      let e : n - i ≡ suc (n - (i + 1)) = omega arith in
-      rw (e, not-so _ _ f g) at inv
-
-  pub rows-done : (i : ℕ) (x : Bool) → n ≤ i → every b (rows w (n - i) t i) ≡ x → true ≡ x
-  unfolding rows every
-  rows-done i x p inv =
-      let e : n - i ≡ 0 = omega arith in
-      rw e at inv
+use Rattle.layout.specs.Read.{ParamsRead}
 
 -- a loop that keeps the greatest of bytes that are to be zero: a turn, where the byte is greater and where it is not, and the end
 pub most-new : (a b m : ℕ) → m ≡ b → a < b → eqb m 0 ≡ (eqb a 0 && eqb b 0)
@@ -187,14 +123,14 @@ unfolding wellFormed isRecord
 record-fields size pages page offset w kind v r x a b c d e h = rw (← a, ← b, ← c, ← d, ← e) h
 
 -- `counts`: more records than the log holds, more than there are numbers, and neither
-pub counts-span : (last closed n span : ℕ) → span < n → false ≡ soundCounts last closed n span
-counts-span last closed n span h = rw (lt-leb n span h)
+pub counts-size : (last closed n logSize : ℕ) → logSize < n → false ≡ soundCounts last closed n logSize
+counts-size last closed n logSize h = rw (lt-leb n logSize h)
 
-pub counts-last : (last closed n span : ℕ) → n ≤ span → last < n → false ≡ soundCounts last closed n span
-counts-last last closed n span h k = rw (le-leb n span h, lt-leb n last k)
+pub counts-last : (last closed n logSize : ℕ) → n ≤ logSize → last < n → false ≡ soundCounts last closed n logSize
+counts-last last closed n logSize h k = rw (le-leb n logSize h, lt-leb n last k)
 
-pub counts-first : (last closed n span : ℕ) → n ≤ span → n ≤ last → leb (last - n + 1) (closed + 1) ≡ soundCounts last closed n span
-counts-first last closed n span h k = rw (le-leb n span h, le-leb n last k)
+pub counts-first : (last closed n logSize : ℕ) → n ≤ logSize → n ≤ last → leb (last - n + 1) (closed + 1) ≡ soundCounts last closed n logSize
+counts-first last closed n logSize h k = rw (le-leb n logSize h, le-leb n last k)
 
 -- `all_at_most`: the number tested is the page's
 pub number-read : (marks : List ℕ) (at most p r : ℕ) → r ≡ num 4 marks (at + 4 * p) → leb r most ≡ numberWithin marks at most p
@@ -225,7 +161,7 @@ dirty-parts first closed d = pick (eqb d 0) refl
 pub dirty-found : (marks : List ℕ) (pages first closed : ℕ) (a b : Bool) → a ≡ upTo (numberWithin marks (12 + 4 * pages) closed) pages 0 → b ≡ upTo (dirtyFrom marks pages first) pages 0 → (a && b) ≡ soundDirties marks pages first closed
 dirty-found marks pages first closed a b e f =
     rw (e, f) (sym (
-    upTo-same (dirtyWithin marks pages first closed) (λ (p : ℕ). numberWithin marks (12 + 4 * pages) closed p && dirtyFrom marks pages first p) (λ p. dirty-parts first closed (num 4 marks (dirtyAt pages p))) pages 0
+    upTo-alike (dirtyWithin marks pages first closed) (λ (p : ℕ). numberWithin marks (12 + 4 * pages) closed p && dirtyFrom marks pages first p) pages 0 (λ p _ _. dirty-parts first closed (num 4 marks (dirtyAt pages p)))
     ∙ upTo-both (numberWithin marks (12 + 4 * pages) closed) (dirtyFrom marks pages first) pages 0
     ))
 
@@ -237,150 +173,59 @@ pub log-found : (size pages n : ℕ) (log : List ℕ) (a b : Bool) → a ≡ eve
 log-found size pages n log a b e f = rw (e, f, rest-lent log (n * 14))
 
 -- the counts that `sound_marks` goes on with
-pub counts-hold : (last closed n span : ℕ) {r : Bool} → r ≡ soundCounts last closed n span → not r ≡ false → (n ≤ span) × (n ≤ last)
-counts-hold last closed n span f g =
-    let e = and-three (leb n span) (leb n last) (leb (last - n + 1) (closed + 1)) (so _ _ f g) in
-    (leb-true n span (e .0), leb-true n last (e .1))
+pub counts-hold : (last closed n logSize : ℕ) {r : Bool} → r ≡ soundCounts last closed n logSize → not r ≡ false → (n ≤ logSize) × (n ≤ last)
+counts-hold last closed n logSize f g =
+    let e = and-three (leb n logSize) (leb n last) (leb (last - n + 1) (closed + 1)) (so _ _ f g) in
+    (leb-true n logSize (e .0), leb-true n last (e .1))
 
 -- `sound_marks`: what each check found, of the numbers that were read
-module _ (marks log : List ℕ) (size pages span last closed n : ℕ) (el : last ≡ num 4 marks 0) (ek : closed ≡ num 4 marks 4) (en : n ≡ num 4 marks 8) {r : Bool} (counted : r ≡ soundCounts last closed n span) where
-  pub marks-counts : not r ≡ true → false ≡ soundMarks marks log size pages span
+module _ (marks log : List ℕ) (size pages logSize last closed n : ℕ) (el : last ≡ num 4 marks 0) (ek : closed ≡ num 4 marks 4) (en : n ≡ num 4 marks 8) {r : Bool} (counted : r ≡ soundCounts last closed n logSize) where
+  pub marks-counts : not r ≡ true → false ≡ soundMarks marks log size pages logSize
   unfolding soundMarks
   marks-counts h = rw (← el, ← ek, ← en, not-so _ _ counted h)
 
   module _ (h : not r ≡ false) {t : Bool} (stamped : t ≡ soundStamps marks pages last closed) where
-    pub marks-stamps : not t ≡ true → false ≡ soundMarks marks log size pages span
+    pub marks-stamps : not t ≡ true → false ≡ soundMarks marks log size pages logSize
     unfolding soundMarks
     marks-stamps i = rw (← el, ← ek, ← en, so _ _ counted h, not-so _ _ stamped i)
 
     module _ (i : not t ≡ false) {d : Bool} (dirtied : d ≡ soundDirties marks pages (last - n + 1) closed) where
-      pub marks-dirty : not d ≡ true → false ≡ soundMarks marks log size pages span
+      pub marks-dirty : not d ≡ true → false ≡ soundMarks marks log size pages logSize
       unfolding soundMarks
       marks-dirty j = rw (← el, ← ek, ← en, so _ _ counted h, so _ _ stamped i, not-so _ _ dirtied j)
 
-      pub marks-log : {x : Bool} → not d ≡ false → x ≡ (every (wellFormed size pages) (rows 14 n log 0) && zeros (drop (n * 14) log)) → x ≡ soundMarks marks log size pages span
+      pub marks-log : {x : Bool} → not d ≡ false → x ≡ (every (wellFormed size pages) (rows 14 n log 0) && zeros (drop (n * 14) log)) → x ≡ soundMarks marks log size pages logSize
       unfolding soundMarks
       marks-log j k = rw (← el, ← ek, ← en, so _ _ counted h, so _ _ stamped i, so _ _ dirtied j) k
-
--- the ranges as bounds
-between-bounds : (low n high : ℕ) → between low n high ≡ true → (low ≤ n) × (n ≤ high)
-between-bounds low n high h =
-    let e = and-both (leb low n) (leb n high) h in
-    (leb-true low n (e .0), leb-true n high (e .1))
-
-pub ranged : (size pages frames room span : ℕ) → inRange size pages frames room span ≡ true → Ranged size pages frames room span
-unfolding inRange isPageSize
-ranged size pages frames room span h =
-    let e = and-five (isPageSize size) (between 1 pages 1024) (between 1 frames 64) (between 1 room 512) (between 1 span 2048) h in
-    let s = among-four (λ (n : ℕ). (512 ≤ n) × (n ≤ 4096)) size 512 1024 2048 4096 (e .0) (omega arith, omega arith) (omega arith, omega arith) (omega arith, omega arith) (omega arith, omega arith) in
-    let p = between-bounds 1 pages 1024 (e .1) in
-    let f = between-bounds 1 frames 64 (e .2) in
-    let o = between-bounds 1 room 512 (e .3) in
-    let l = between-bounds 1 span 2048 (e .4) in
-    record {
-      size-least = s .0;
-      size-most = s .1;
-      pages-least = p .0;
-      pages-most = p .1;
-      frames-least = f .0;
-      frames-most = f .1;
-      room-least = o .0;
-      room-most = o .1;
-      span-least = l .0;
-      span-most = l .1;
-    }
 
 -- an area of pages or frames stays small
 pub area-small : (size n : ℕ) → size ≤ 4096 → n ≤ 1024 → size * n ≤ 4194304
 area-small size n h k = mul-le-mul {n₁ = size} {m₁ = n} {n₂ = 4096} {m₂ = 1024} h k
-
--- the six lengths that `exact_lengths` found
-pub lengths-each : (s : Lent) (size pages frames room span : ℕ) → exactLengths s size pages frames room span ≡ true → (length (s .durable .marks) ≡ 12 + 8 * pages) × (length (s .durable .log) ≡ 14 * span) × (length (s .durable .stored) ≡ size * pages) × (length (s .lost .tables) ≡ 35 + frames + pages) × (length (s .lost .online) ≡ 19 * room) × (length (s .lost .pool) ≡ size * frames)
-unfolding exactLengths
-lengths-each s size pages frames room span h =
-    let e =
-    and-six (eqb (length (s .durable .marks)) (12 + 8 * pages)) (eqb (length (s .durable .log)) (14 * span)) (eqb (length (s .durable .stored)) (size * pages))
-    (eqb (length (s .lost .tables)) (35 + frames + pages)) (eqb (length (s .lost .online)) (19 * room)) (eqb (length (s .lost .pool)) (size * frames)) h
-    in (
-      eqb-true (length (s .durable .marks)) (12 + 8 * pages) (e .0),
-      eqb-true (length (s .durable .log)) (14 * span) (e .1),
-      eqb-true (length (s .durable .stored)) (size * pages) (e .2),
-      eqb-true (length (s .lost .tables)) (35 + frames + pages) (e .3),
-      eqb-true (length (s .lost .online)) (19 * room) (e .4),
-      eqb-true (length (s .lost .pool)) (size * frames) (e .5),
-    )
-
--- the two that `sound_marks` asks for
-pub lengths-marks : (s : Lent) (size pages frames room span : ℕ) {r : Bool} → r ≡ exactLengths s size pages frames room span → not r ≡ false → (length (s .durable .marks) ≡ 12 + 8 * pages) × (length (s .durable .log) ≡ 14 * span)
-lengths-marks s size pages frames room span f g =
-    let e = lengths-each s size pages frames room span (so _ _ f g) in
-    (e .0, e .1)
 
 -- `sound_durable`: what each check found
 pub durable-fixed : (s : Lent) → (length (s .durable .fixed) ≡ 20 → ⊥) → false ≡ soundDurable s
 unfolding soundDurable s1-parameters
 durable-fixed s h = rw (ne-eqb (length (s .durable .fixed)) 20 h)
 
-module _ (s : Lent) (size pages frames room span : ℕ) (fixed : length (s .durable .fixed) ≡ 20)
-    (given : (size ≡ num 4 (s .durable .fixed) 0) × (pages ≡ num 4 (s .durable .fixed) 4) × (frames ≡ num 4 (s .durable .fixed) 8) × (room ≡ num 4 (s .durable .fixed) 12) × (span ≡ num 4 (s .durable .fixed) 16)) where
-  first-clause : (b : Bool) → inRange size pages frames room span ≡ b → s1-parameters s ≡ b
+module _ (s : Lent) (g : Params) (fixed : length (s .durable .fixed) ≡ 20) (read : ParamsRead (s .durable .fixed) g) where
+  first-clause : (b : Bool) → inRange g ≡ b → s1-parameters s ≡ b
   unfolding s1-parameters
-  first-clause b h = rw (eq-eqb (length (s .durable .fixed)) 20 fixed, ← given .0, ← given .1, ← given .2, ← given .3, ← given .4) h
+  first-clause b h = rw (eq-eqb (length (s .durable .fixed)) 20 fixed, ← read .size, ← read .pages, ← read .frames, ← read .online, ← read .log) h
 
-  second-clause : (b : Bool) → exactLengths s size pages frames room span ≡ b → s2-lengths s ≡ b
+  second-clause : (b : Bool) → exactLengths s g ≡ b → s2-lengths s ≡ b
   unfolding s2-lengths
-  second-clause b h = rw (← given .0, ← given .1, ← given .2, ← given .3, ← given .4) h
+  second-clause b h = rw (← read .size, ← read .pages, ← read .frames, ← read .online, ← read .log) h
 
-  module _ {r : Bool} (within : r ≡ inRange size pages frames room span) where
+  module _ {r : Bool} (within : r ≡ inRange g) where
     pub durable-range : not r ≡ true → false ≡ soundDurable s
     unfolding soundDurable
     durable-range h = rw (first-clause false (not-so _ _ within h))
 
-    module _ (h : not r ≡ false) {t : Bool} (exact : t ≡ exactLengths s size pages frames room span) where
+    module _ (h : not r ≡ false) {t : Bool} (exact : t ≡ exactLengths s g) where
       pub durable-lengths : not t ≡ true → false ≡ soundDurable s
       unfolding soundDurable
       durable-lengths i = rw (first-clause true (so _ _ within h), second-clause false (not-so _ _ exact i))
 
-      pub durable-marks : {x : Bool} → not t ≡ false → x ≡ soundMarks (s .durable .marks) (s .durable .log) size pages span → x ≡ soundDurable s
+      pub durable-marks : {x : Bool} → not t ≡ false → x ≡ soundMarks (s .durable .marks) (s .durable .log) (g .size) (g .pages) (g .log) → x ≡ soundDurable s
       unfolding soundDurable soundMarks s3-logged s16-logged s18-first s15-stamps s17-s19-dirty s7-log-records s14-log-zero
-      durable-marks i e = rw (first-clause true (so _ _ within h), second-clause true (so _ _ exact i), ← given .0, ← given .1, ← given .4) e
-
--- what a sound durable part gives
-durable-clauses : (s : Lent) → soundDurable s ≡ true → (s1-parameters s ≡ true) × (s2-lengths s ≡ true) × (s3-logged s ≡ true) × (s16-logged s ≡ true) × (s18-first s ≡ true) × (s15-stamps s ≡ true) × (s17-s19-dirty s ≡ true) × (s7-log-records s ≡ true) × (s14-log-zero s ≡ true)
-unfolding soundDurable
-durable-clauses s h = and-nine (s1-parameters s) (s2-lengths s) (s3-logged s) (s16-logged s) (s18-first s) (s15-stamps s) (s17-s19-dirty s) (s7-log-records s) (s14-log-zero s) h
-
-pub durable-sized : (s : Lent) → soundDurable s ≡ true → Sized s
-unfolding s1-parameters s2-lengths
-durable-sized s h =
-    let e = durable-clauses s h in
-    let p = and-both (eqb (length (s .durable .fixed)) 20) (inRange (sizeOf s) (pagesOf s) (framesOf s) (roomOf s) (spanOf s)) (e .0) in
-    let r = ranged (sizeOf s) (pagesOf s) (framesOf s) (roomOf s) (spanOf s) (p .1) in
-    let l = lengths-each s (sizeOf s) (pagesOf s) (framesOf s) (roomOf s) (spanOf s) (e .1) in
-    record {
-      fixed = eqb-true (length (s .durable .fixed)) 20 (p .0);
-      size-least = r .size-least;
-      size = r .size-most;
-      pages-least = r .pages-least;
-      pages = r .pages-most;
-      frames-least = r .frames-least;
-      frames = r .frames-most;
-      room = r .room-most;
-      span = r .span-most;
-      marks = l .0;
-      log = l .1;
-      stored = l .2;
-      tables = l .3;
-      online = l .4;
-      pool = l .5;
-    }
-
-pub durable-logged : (s : Lent) → soundDurable s ≡ true → (loggedOf s ≤ spanOf s) × (loggedOf s ≤ lastOf s)
-unfolding s3-logged s16-logged
-durable-logged s h =
-    let e = durable-clauses s h in
-    (leb-true (loggedOf s) (spanOf s) (e .2), leb-true (loggedOf s) (lastOf s) (e .3))
-
-pub durable-log-records : (s : Lent) → soundDurable s ≡ true → every (wellFormed (sizeOf s) (pagesOf s)) (logOf s) ≡ true
-unfolding s7-log-records
-durable-log-records s h = durable-clauses s h .7
+      durable-marks i e = rw (first-clause true (so _ _ within h), second-clause true (so _ _ exact i), ← read .size, ← read .pages, ← read .log) e

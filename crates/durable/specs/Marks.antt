@@ -16,7 +16,7 @@ isRecord size pages page offset w kind v = ltb page pages && isLength w && leb (
 
 -- n within the log and at most L, the log's first number at most K + 1
 abbrev pub soundCounts : ℕ → ℕ → ℕ → ℕ → Bool
-soundCounts last closed n span = leb n span && leb n last && leb (last - n + 1) (closed + 1)
+soundCounts last closed n logSize = leb n logSize && leb n last && leb (last - n + 1) (closed + 1)
 
 -- page p's number in the column from `at` on is at most `most`
 abbrev pub numberWithin : List ℕ → ℕ → ℕ → ℕ → Bool
@@ -44,7 +44,7 @@ abbrev pub soundDirties : List ℕ → ℕ → ℕ → ℕ → Bool
 soundDirties marks pages first closed = upTo (dirtyWithin marks pages first closed) pages 0
 
 unfoldable pub soundMarks : List ℕ → List ℕ → ℕ → ℕ → ℕ → Bool
-soundMarks marks log size pages span =
-    soundCounts (num 4 marks 0) (num 4 marks 4) (num 4 marks 8) span && soundStamps marks pages (num 4 marks 0) (num 4 marks 4)
+soundMarks marks log size pages logSize =
+    soundCounts (num 4 marks 0) (num 4 marks 4) (num 4 marks 8) logSize && soundStamps marks pages (num 4 marks 0) (num 4 marks 4)
     && soundDirties marks pages (num 4 marks 0 - num 4 marks 8 + 1) (num 4 marks 4) && every (wellFormed size pages) (rows 14 (num 4 marks 8) log 0)
     && zeros (drop (num 4 marks 8 * 14) log)

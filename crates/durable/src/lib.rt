@@ -6,15 +6,15 @@ ghost use mathlib.Core.List.{List};
 ghost use Prim.Native.Nat.{ℕ, _+_, _*_, _^_, _≤_, _<_};
 ghost use lib.ListN.{length, drop};
 ghost use lib.Dec.{ltb};
-ghost use Rattle.word.specs.Word.{num};
 ghost use Rattle.record.specs.Rows.{rowAt, rows};
 ghost use Rattle.record.specs.Record.{isLength, wellFormed};
-ghost use Rattle.rules.specs.Lent.{lentOf};
+ghost use Rattle.rules.specs.Areas.{before};
 ghost use Rattle.rules.specs.Sound.{every, upTo, zeros, isPageSize, inRange, exactLengths, soundDurable};
 ghost use Rattle.durable.specs.Limits.{placesOf, mostValues};
 ghost use Rattle.durable.specs.Marks.{isRecord, soundCounts, numberWithin, soundStamps, dirtyFrom, soundDirties, soundMarks};
 use number::LogNo;
 use number::PageNo;
+use rules::Params;
 
 // Every byte is zero, as the greatest is. The loop has no way out and keeps a byte, so that it is compiled to steps of many bytes.
 pub fn all_zero(s: &[u8]) -> bool
@@ -116,12 +116,12 @@ fn log_records(log: &[u8], n: usize, size: usize, pages: usize) -> bool
     true
 }
 
-// The log holds n of at most span records, and its first number is at most K + 1.
-fn counts(last: LogNo, closed: LogNo, n: u64, span: u64) -> bool
+// The log holds n of at most log_size records, and its first number is at most K + 1.
+fn counts(last: LogNo, closed: LogNo, n: u64, log_size: u64) -> bool
     requires { ⌜ (last .0 < 4294967296) × (closed .0 < 4294967296) ⌝ }
-    ensures { λ r. ⌜ r ≡ soundCounts (last .0) (closed .0) n span ⌝ }
+    ensures { λ r. ⌜ r ≡ soundCounts (last .0) (closed .0) n «log_size» ⌝ }
 {
-    if span < n {
+    if log_size < n {
         return false;
     }
     if last.0 < n {
@@ -187,62 +187,36 @@ fn is_page_size(size: u64) -> bool
 }
 
 // The parameters are in their ranges.
-pub fn in_range(size: u64, pages: u64, frames: u64, room: u64, span: u64) -> bool
-    ensures { λ r. ⌜ r ≡ inRange size pages frames room span ⌝ }
+pub fn in_range(g: Params) -> bool
+    ensures { λ r. ⌜ r ≡ inRange g ⌝ }
 {
-    is_page_size(size)
-        & ((1 <= pages) & (pages <= 1024))
-        & ((1 <= frames) & (frames <= 64))
-        & ((1 <= room) & (room <= 512))
-        & ((1 <= span) & (span <= 2048))
+    is_page_size(g.size)
+        & ((1 <= g.pages) & (g.pages <= 1024))
+        & ((1 <= g.frames) & (g.frames <= 64))
+        & ((1 <= g.online) & (g.online <= 512))
+        & ((1 <= g.log) & (g.log <= 2048))
 }
 
 // The areas beside `fixed` have the lengths of these parameters.
 pub fn exact_lengths(
+    fixed: &[u8],
     marks: &[u8],
     log: &[u8],
     stored: &[u8],
     tables: &[u8],
     online: &[u8],
     pool: &[u8],
-    size: u64,
-    pages: u64,
-    frames: u64,
-    room: u64,
-    span: u64,
+    g: Params,
 ) -> bool
-    requires { ⌜ inRange size pages frames room span ≡ true ⌝ }
-    ensures { λ r. ⌜ ((fixed : List ℕ) → r ≡ exactLengths (lentOf fixed (now (marks .entry)) (now (log .entry)) (now (stored .entry)) (now (tables .entry)) (now (online .entry)) (now (pool .entry))) size pages frames room span) ⌝ }
+    requires { ⌜ inRange g ≡ true ⌝ }
+    ensures { λ r. ⌜ r ≡ exactLengths (before fixed marks log stored tables online pool) g ⌝ }
 {
-    (marks.len() as u64 == 12 + 8 * pages)
-        & (log.len() as u64 == 14 * span)
-        & (stored.len() as u64 == size * pages)
-        & (tables.len() as u64 == 35 + frames + pages)
-        & (online.len() as u64 == 19 * room)
-        & (pool.len() as u64 == size * frames)
-}
-
-// What format was given.
-pub struct Params {
-    pub size: u64,
-    pub pages: u64,
-    pub frames: u64,
-    pub room: u64,
-    pub span: u64,
-}
-
-// The parameters as `fixed` holds them.
-pub fn params_of(fixed: &[u8]) -> Params
-    requires { ⌜ length (now fixed) ≡ 20 ⌝ }
-    ensures { λ r. ⌜ (r .size ≡ num 4 (now (fixed .entry)) 0) × (r .pages ≡ num 4 (now (fixed .entry)) 4) × (r .frames ≡ num 4 (now (fixed .entry)) 8) × (r .room ≡ num 4 (now (fixed .entry)) 12) × (r .span ≡ num 4 (now (fixed .entry)) 16) ⌝ }
-{
-    Params {
-        size: word::load(fixed, 0, 4),
-        pages: word::load(fixed, 4, 4),
-        frames: word::load(fixed, 8, 4),
-        room: word::load(fixed, 12, 4),
-        span: word::load(fixed, 16, 4),
-    }
+    (marks.len() as u64 == 12 + 8 * g.pages)
+        & (log.len() as u64 == 14 * g.log)
+        & (stored.len() as u64 == g.size * g.pages)
+        & (tables.len() as u64 == 35 + g.frames + g.pages)
+        & (online.len() as u64 == 19 * g.online)
+        & (pool.len() as u64 == g.size * g.frames)
 }
 
 // The log: n rows that are records, and zeros behind them.
@@ -255,14 +229,14 @@ fn sound_log(log: &[u8], n: usize, size: usize, pages: usize) -> bool
 }
 
 // The marks and the log, once parameters and lengths are right.
-fn sound_marks(marks: &[u8], log: &[u8], size: usize, pages: usize, span: u64) -> bool
-    requires { ⌜ (length (now marks) ≡ 12 + 8 * pages) × (length (now log) ≡ 14 * span) × (8 ≤ size) ⌝ }
-    ensures { λ r. ⌜ r ≡ soundMarks (now (marks .entry)) (now (log .entry)) size pages span ⌝ }
+fn sound_marks(marks: &[u8], log: &[u8], size: usize, pages: usize, log_size: u64) -> bool
+    requires { ⌜ (length (now marks) ≡ 12 + 8 * pages) × (length (now log) ≡ 14 * «log_size») × (8 ≤ size) ⌝ }
+    ensures { λ r. ⌜ r ≡ soundMarks (now (marks .entry)) (now (log .entry)) size pages «log_size» ⌝ }
 {
     let last = LogNo(word::load(marks, 0, 4));
     let closed = LogNo(word::load(marks, 4, 4));
     let n = word::load(marks, 8, 4);
-    if !counts(last, closed, n, span) {
+    if !counts(last, closed, n, log_size) {
         return false;
     }
     if !stamps(marks, pages, last, closed) {
@@ -285,29 +259,17 @@ pub fn sound_durable(
     online: &[u8],
     pool: &[u8],
 ) -> bool
-    ensures { λ r. ⌜ r ≡ soundDurable (lentOf (now (fixed .entry)) (now (marks .entry)) (now (log .entry)) (now (stored .entry)) (now (tables .entry)) (now (online .entry)) (now (pool .entry))) ⌝ }
+    ensures { λ r. ⌜ r ≡ soundDurable (before fixed marks log stored tables online pool) ⌝ }
 {
     if fixed.len() != 20 {
         return false;
     }
-    let p = params_of(fixed);
-    if !in_range(p.size, p.pages, p.frames, p.room, p.span) {
+    let g = layout::params_of(fixed);
+    if !in_range(g) {
         return false;
     }
-    if !exact_lengths(
-        marks,
-        log,
-        stored,
-        tables,
-        online,
-        pool,
-        p.size,
-        p.pages,
-        p.frames,
-        p.room,
-        p.span,
-    ) {
+    if !exact_lengths(fixed, marks, log, stored, tables, online, pool, g) {
         return false;
     }
-    sound_marks(marks, log, p.size as usize, p.pages as usize, p.span)
+    sound_marks(marks, log, g.size as usize, g.pages as usize, g.log)
 }

@@ -1,23 +1,22 @@
 -- Laws of pages and frames within their areas, and of what fetch finds.
-use Prim.Native.Nat.{ℕ, zero, suc, _+_, _*_, _-_, _/_, _%_, _≤_, _<_}
+use Prim.Native.Nat.{ℕ, _+_, _*_, _-_, _/_, _%_, _≤_, _<_}
 use native.Mathlib.Omega.{arith}
 use mathlib.Core.Path.{_≡_, sym, _∙_}
-use mathlib.Core.Bool.{Bool, true, false, cond, not}
-use mathlib.Core.List.{List, [], _∷_, _++_}
+use mathlib.Core.Bool.{true, false, cond, not}
+use mathlib.Core.List.{List, _++_}
 use lib.ListN.{length, getD, take, drop, length-take, length-drop}
-use lib.Dec.{eqb, ltb}
-use borrow.Author.Tests.{eq-eqb, ne-eqb, ltb-true}
+use lib.Dec.{eqb}
+use borrow.Author.Tests.{eq-eqb, ne-eqb}
 use borrow.Rule.Slice.PartMut.{putMid, put-same}
 use Rattle.record.specs.Part.{part, withPart}
 use Rattle.record.specs.Rows.{rows, keep}
 use Rattle.record.specs.Record.{onPage, applied}
 use Rattle.record.proofs.Parts.{part-inner, one-fits}
-use Rattle.order.specs.Order.{named, touched, victim, frameFrom, frameFor}
+use Rattle.order.specs.Order.{touched, frameFor}
 use Rattle.rules.specs.Lent.{Lent, sizeOf, pagesOf, framesOf, countOf, orderOf, entryAt, entryOf, pageIn, withPage, withOrder, withEntries}
-use Rattle.rules.specs.Sound.{every}
 use Rattle.rules.specs.Shape.{Shaped}
 use Rattle.rules.specs.Steps.{placed, rebuilt, fetchedEntries, fetchedPool, readTables, readStep, readBytes}
-use Rattle.rules.proofs.Every.{every-at}
+use Rattle.rules.proofs.Kept.{frame-below}
 use Rattle.rules.proofs.Tables.{entry-below}
 use Rattle.fetch.specs.Post.{SizesRead, PageBrought, PageFetched, PageUsed, ReadDone}
 
@@ -26,25 +25,6 @@ pub mid-put : (l ys zs : List ℕ) (a k e : ℕ) → e ≡ a + k → ys ≡ zs �
 mid-put l ys zs a k e h q =
     let d : e - a ≡ k = omega arith in
     rw (d, q)
-
--- the frame for a page is one of the frames
-frame-from-below : (n f frames : ℕ) (o : List ℕ) → f + n ≤ frames → victim o < frames → frameFrom n f o < frames
-unfolding frameFrom
-frame-from-below zero f frames o p h = h
-frame-from-below (suc n) f frames o p h = go (named f o) (frame-from-below n (f + 1) frames o (omega arith) h)
-  where
-    go : (b : Bool) → frameFrom n (f + 1) o < frames → cond b (frameFrom n (f + 1) o) f < frames
-    go true q = q
-    go false q = omega arith
-
-victim-below : (frames : ℕ) (o : List ℕ) → 1 ≤ frames → every (λ (f : ℕ). ltb f frames) o ≡ true → victim o < frames
-unfolding victim
-victim-below frames [] p h = p
-victim-below frames (f ∷ o) p h = ltb-true f frames (every-at (λ (f : ℕ). ltb f frames) (f ∷ o) 0 h (omega arith))
-
-pub frame-below : (frames : ℕ) (o : List ℕ) → 1 ≤ frames → every (λ (f : ℕ). ltb f frames) o ≡ true → frameFor frames o < frames
-unfolding frameFor
-frame-below frames o p h = frame-from-below frames 0 frames o (omega arith) (victim-below frames o p h)
 
 -- the entry and the frame, by the parameters that were read
 pub entry-in : (s : Lent) (p size pages frames e : ℕ) → SizesRead (s .durable .fixed) size pages frames → e ≡ getD (s .lost .tables) (entryAt frames p) 0 → e ≡ entryOf s p

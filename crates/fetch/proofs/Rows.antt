@@ -1,4 +1,4 @@
--- Laws of an update's row: appended to the online table, read back from it, and its page.
+-- Laws of an update's row: appended to the online table, and read back from it.
 use Prim.Native.Nat.{ℕ, _+_, _*_, _-_, _≤_, _<_}
 use native.Mathlib.Omega.{arith}
 use mathlib.Core.Path.{_≡_, sym, ap, _∙_}
@@ -6,25 +6,20 @@ use mathlib.Core.Bool.{Bool, true, false, cond}
 use mathlib.Core.List.{List, [], _∷_, _++_, map, append-assoc, append-nil}
 use lib.ListN.{length, take, drop, set, replicate, length-append, length-take, length-drop, length-set, length-map}
 use lib.Seq.{length-take-le, set-append-left, take-at, drop-at}
-use Rattle.word.specs.Word.{num, put}
+use Rattle.word.specs.Word.{put}
 use Rattle.record.specs.Part.{withPart}
 use Rattle.record.specs.Rows.{rowAt, rows, joined, table}
-use Rattle.record.specs.Record.{pageOf, apply, rowOf}
+use Rattle.record.specs.Record.{pageOf, apply}
 use Rattle.record.proofs.Laws.{drop-zeros}
 use Rattle.rules.proofs.Every.{zeros-are}
-use Rattle.table.proofs.Laws.{length-rows, joined-all}
+use Rattle.record.proofs.Rows.{length-rows, joined-all}
 use Rattle.order.specs.Order.{touched}
-use Rattle.rules.specs.Lent.{Lent, sizeOf, pagesOf, framesOf, roomOf, countOf, orderOf, entryAt, entryOf, entriesOf, onlineOf, inFrame, dirtyIn, pageIn, withPage, withOrder, withCount}
+use Rattle.rules.specs.Lent.{Lent, sizeOf, pagesOf, framesOf, onlineSizeOf, countOf, orderOf, entryAt, entryOf, entriesOf, onlineOf, inFrame, dirtyIn, pageIn, withPage, withOrder, withCount}
 use Rattle.rules.specs.Sound.{zeros}
 use Rattle.rules.specs.Shape.{Shaped}
 use Rattle.rules.specs.Steps.{freed, placed, placeOf, fetchedEntries, fetchedPool, updateTables, updated}
 use Rattle.table.proofs.Moves.{set-append-add}
 use Rattle.fetch.specs.Post.{SizesRead, PageFetched, PageUsed, UpdateDone}
-
--- an update's row has its page, and 19 bytes
-pub row-page : (p offset w kind v x : ℕ) → p < 65536 → pageOf (rowOf p offset w kind v x) ≡ p
-unfolding rowOf put num
-row-page p offset w kind v x h = omega arith
 
 -- a row that was written, read back
 pub row-back : (m : ℕ) (l r : List ℕ) → m * 19 ≤ length l → length r ≡ 19 → rowAt 19 (withPart (m * 19) 19 l r) m ≡ r
@@ -89,12 +84,12 @@ changed s p f n size pages frames m o t t′ g w q z i j h e =
     }
 
 -- what `update` leaves, by the row r of page p
-pub updated-row : (s : Lent) (r : List ℕ) (p f n size pages frames m : ℕ) (t o g g′ : List ℕ) → pageOf r ≡ p → length r ≡ 19 → Shaped s → countOf s < roomOf s → zeros (drop (countOf s * 19) (s .lost .online)) ≡ true → SizesRead (s .durable .fixed) size pages frames → m ≡ countOf s → PageUsed s p f n t g (updateTables s p) → o ≡ withPart (m * 19) 19 (s .lost .online) r → g′ ≡ withPage size f g (apply (rowAt 19 o m) (pageIn size f g)) → UpdateDone s r n t o g′
+pub updated-row : (s : Lent) (r : List ℕ) (p f n size pages frames m : ℕ) (t o g g′ : List ℕ) → pageOf r ≡ p → length r ≡ 19 → Shaped s → countOf s < onlineSizeOf s → zeros (drop (countOf s * 19) (s .lost .online)) ≡ true → SizesRead (s .durable .fixed) size pages frames → m ≡ countOf s → PageUsed s p f n t g (updateTables s p) → o ≡ withPart (m * 19) 19 (s .lost .online) r → g′ ≡ withPage size f g (apply (rowAt 19 o m) (pageIn size f g)) → UpdateDone s r n t o g′
 unfolding updated
 updated-row s r p f n size pages frames m t o g g′ e l w q y z i h eo eg =
     let b : m * 19 ≤ length (s .lost .online) = omega (arith, w .sized .online) in
     let c : rowAt 19 o m ≡ r = rw eo (row-back m (s .lost .online) r b l) in
-    let d : o ≡ table 19 (roomOf s) (onlineOf s ++ (r ∷ [])) = eo ∙ rw i (sym (row-appended (countOf s) (roomOf s) (s .lost .online) r (w .sized .online) q y)) in
+    let d : o ≡ table 19 (onlineSizeOf s) (onlineOf s ++ (r ∷ [])) = eo ∙ rw i (sym (row-appended (countOf s) (onlineSizeOf s) (s .lost .online) r (w .sized .online) q y)) in
     let k : g′ ≡ withPage (sizeOf s) (placeOf s p) (fetchedPool s p) (apply r (pageIn (sizeOf s) (placeOf s p) (fetchedPool s p))) = eg ∙ rw (c, z .size, h .frame, h .pool) in
     record {
       reads = rw e (h .reads);

@@ -11,7 +11,8 @@ ghost use Rattle.record.specs.Rows.{rowAt, rows, keep};
 ghost use Rattle.record.specs.Record.{onPage, apply, applied, rowOf};
 ghost use Rattle.order.specs.Order.{touched};
 ghost use Rattle.order.specs.Meant.{listOf};
-ghost use Rattle.rules.specs.Lent.{lentOf, sizeOf, pagesOf, framesOf, roomOf, countOf, orderOf, entryAt, dirtyIn, pageIn, withPage, withOrder, withEntries, withCount};
+ghost use Rattle.rules.specs.Lent.{sizeOf, pagesOf, framesOf, onlineSizeOf, countOf, orderOf, entryAt, dirtyIn, pageIn, withPage, withOrder, withEntries, withCount};
+ghost use Rattle.rules.specs.Areas.{areas, before};
 ghost use Rattle.rules.specs.Sound.{zeros};
 ghost use Rattle.rules.specs.Shape.{Shaped};
 ghost use Rattle.rules.specs.Steps.{placed, readTables, updateTables};
@@ -105,8 +106,8 @@ fn bring_in(
     f: FrameNo,
     p: PageNo,
 )
-    requires { ⌜ Shaped (lentOf (now fixed) (now marks) (now log) (now stored) (now tables) (now online) (now pool)) × (p .0 < pagesOf (lentOf (now fixed) (now marks) (now log) (now stored) (now tables) (now online) (now pool))) × (f .0 < framesOf (lentOf (now fixed) (now marks) (now log) (now stored) (now tables) (now online) (now pool))) ⌝ }
-    ensures { λ r. ⌜ PageBrought (lentOf (now (fixed .entry)) (now (marks .entry)) (now (log .entry)) (now (stored .entry)) (now (tables .entry)) (now (online .entry)) (now (pool .entry))) (p .0) (f .0) (now (tables .exit)) (now (pool .exit)) ⌝ }
+    requires { ⌜ Shaped (areas fixed marks log stored tables online pool) × (p .0 < pagesOf (areas fixed marks log stored tables online pool)) × (f .0 < framesOf (areas fixed marks log stored tables online pool)) ⌝ }
+    ensures { λ r. ⌜ PageBrought (before fixed marks log stored tables online pool) (p .0) (f .0) (now (tables .exit)) (now (pool .exit)) ⌝ }
 {
     let s = load_sizes(fixed);
     let size = s.size;
@@ -130,8 +131,8 @@ pub fn fetch(
     order: Order,
     p: PageNo,
 ) -> Fetched
-    requires { ⌜ Shaped (lentOf (now fixed) (now marks) (now log) (now stored) (now tables) (now online) (now pool)) × (p .0 < pagesOf (lentOf (now fixed) (now marks) (now log) (now stored) (now tables) (now online) (now pool))) × (listOf order ≡ orderOf (lentOf (now fixed) (now marks) (now log) (now stored) (now tables) (now online) (now pool))) × (order .used ≤ 64) ⌝ }
-    ensures { λ r. ⌜ PageFetched (lentOf (now (fixed .entry)) (now (marks .entry)) (now (log .entry)) (now (stored .entry)) (now (tables .entry)) (now (online .entry)) (now (pool .entry))) (p .0) (r .frame .0) (r .reads) (now (tables .exit)) (now (pool .exit)) ⌝ }
+    requires { ⌜ Shaped (areas fixed marks log stored tables online pool) × (p .0 < pagesOf (areas fixed marks log stored tables online pool)) × (listOf order ≡ orderOf (areas fixed marks log stored tables online pool)) × (order .used ≤ 64) ⌝ }
+    ensures { λ r. ⌜ PageFetched (before fixed marks log stored tables online pool) (p .0) (r .frame .0) (r .reads) (now (tables .exit)) (now (pool .exit)) ⌝ }
 {
     let s = load_sizes(fixed);
     let frames = s.frames;
@@ -167,8 +168,8 @@ fn use_page(
     pool: &mut [u8],
     p: PageNo,
 ) -> Fetched
-    requires { ⌜ Shaped (lentOf (now fixed) (now marks) (now log) (now stored) (now tables) (now online) (now pool)) × (p .0 < pagesOf (lentOf (now fixed) (now marks) (now log) (now stored) (now tables) (now online) (now pool))) ⌝ }
-    ensures { λ r. ⌜ PageUsed (lentOf (now (fixed .entry)) (now (marks .entry)) (now (log .entry)) (now (stored .entry)) (now (tables .entry)) (now (online .entry)) (now (pool .entry))) (p .0) (r .frame .0) (r .reads) (now (tables .exit)) (now (pool .exit)) (readTables (lentOf (now (fixed .entry)) (now (marks .entry)) (now (log .entry)) (now (stored .entry)) (now (tables .entry)) (now (online .entry)) (now (pool .entry))) (p .0)) ⌝ }
+    requires { ⌜ Shaped (areas fixed marks log stored tables online pool) × (p .0 < pagesOf (areas fixed marks log stored tables online pool)) ⌝ }
+    ensures { λ r. ⌜ PageUsed (before fixed marks log stored tables online pool) (p .0) (r .frame .0) (r .reads) (now (tables .exit)) (now (pool .exit)) (readTables (before fixed marks log stored tables online pool) (p .0)) ⌝ }
 {
     let s = load_sizes(fixed);
     let frames = s.frames;
@@ -203,8 +204,8 @@ pub fn read(
     offset: usize,
     w: usize,
 ) -> u32
-    requires { ⌜ Shaped (lentOf (now fixed) (now marks) (now log) (now stored) (now tables) (now online) (now pool)) × (p .0 < pagesOf (lentOf (now fixed) (now marks) (now log) (now stored) (now tables) (now online) (now pool))) × (offset + w ≤ sizeOf (lentOf (now fixed) (now marks) (now log) (now stored) (now tables) (now online) (now pool))) × (w ≤ length (now buffer)) ⌝ }
-    ensures { λ r. ⌜ ReadDone (lentOf (now (fixed .entry)) (now (marks .entry)) (now (log .entry)) (now (stored .entry)) (now (tables .entry)) (now (online .entry)) (now (pool .entry))) (p .0) offset w r (now (tables .exit)) (now (pool .exit)) (now (buffer .entry)) (now (buffer .exit)) ⌝ }
+    requires { ⌜ Shaped (areas fixed marks log stored tables online pool) × (p .0 < pagesOf (areas fixed marks log stored tables online pool)) × (offset + w ≤ sizeOf (areas fixed marks log stored tables online pool)) × (w ≤ length (now buffer)) ⌝ }
+    ensures { λ r. ⌜ ReadDone (before fixed marks log stored tables online pool) (p .0) offset w r (now (tables .exit)) (now (pool .exit)) (now (buffer .entry)) (now (buffer .exit)) ⌝ }
 {
     let s = load_sizes(fixed);
     let size = s.size;
@@ -244,8 +245,8 @@ fn change_page(
     pool: &mut [u8],
     p: PageNo,
 ) -> Fetched
-    requires { ⌜ Shaped (lentOf (now fixed) (now marks) (now log) (now stored) (now tables) (now online) (now pool)) × (p .0 < pagesOf (lentOf (now fixed) (now marks) (now log) (now stored) (now tables) (now online) (now pool))) ⌝ }
-    ensures { λ r. ⌜ PageUsed (lentOf (now (fixed .entry)) (now (marks .entry)) (now (log .entry)) (now (stored .entry)) (now (tables .entry)) (now (online .entry)) (now (pool .entry))) (p .0) (r .frame .0) (r .reads) (now (tables .exit)) (now (pool .exit)) (updateTables (lentOf (now (fixed .entry)) (now (marks .entry)) (now (log .entry)) (now (stored .entry)) (now (tables .entry)) (now (online .entry)) (now (pool .entry))) (p .0)) ⌝ }
+    requires { ⌜ Shaped (areas fixed marks log stored tables online pool) × (p .0 < pagesOf (areas fixed marks log stored tables online pool)) ⌝ }
+    ensures { λ r. ⌜ PageUsed (before fixed marks log stored tables online pool) (p .0) (r .frame .0) (r .reads) (now (tables .exit)) (now (pool .exit)) (updateTables (before fixed marks log stored tables online pool) (p .0)) ⌝ }
 {
     let s = load_sizes(fixed);
     let frames = s.frames;
@@ -283,8 +284,8 @@ pub fn update(
     v: u64,
     owner: u8,
 ) -> u32
-    requires { ⌜ Shaped (lentOf (now fixed) (now marks) (now log) (now stored) (now tables) (now online) (now pool)) × (p .0 < pagesOf (lentOf (now fixed) (now marks) (now log) (now stored) (now tables) (now online) (now pool))) × (offset + w ≤ sizeOf (lentOf (now fixed) (now marks) (now log) (now stored) (now tables) (now online) (now pool))) × (w ≤ 8) × (countOf (lentOf (now fixed) (now marks) (now log) (now stored) (now tables) (now online) (now pool)) < roomOf (lentOf (now fixed) (now marks) (now log) (now stored) (now tables) (now online) (now pool))) × (zeros (drop (countOf (lentOf (now fixed) (now marks) (now log) (now stored) (now tables) (now online) (now pool)) * 19) (now online)) ≡ true) ⌝ }
-    ensures { λ r. ⌜ UpdateDone (lentOf (now (fixed .entry)) (now (marks .entry)) (now (log .entry)) (now (stored .entry)) (now (tables .entry)) (now (online .entry)) (now (pool .entry))) (rowOf (p .0) offset w kind v owner) r (now (tables .exit)) (now (online .exit)) (now (pool .exit)) ⌝ }
+    requires { ⌜ Shaped (areas fixed marks log stored tables online pool) × (p .0 < pagesOf (areas fixed marks log stored tables online pool)) × (offset + w ≤ sizeOf (areas fixed marks log stored tables online pool)) × (w ≤ 8) × (countOf (areas fixed marks log stored tables online pool) < onlineSizeOf (areas fixed marks log stored tables online pool)) × (zeros (drop (countOf (areas fixed marks log stored tables online pool) * 19) (now online)) ≡ true) ⌝ }
+    ensures { λ r. ⌜ UpdateDone (before fixed marks log stored tables online pool) (rowOf (p .0) offset w kind v owner) r (now (tables .exit)) (now (online .exit)) (now (pool .exit)) ⌝ }
 {
     let s = load_sizes(fixed);
     let size = s.size;

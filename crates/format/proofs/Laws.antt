@@ -7,7 +7,8 @@ use lib.ListN.{length, set, take, replicate, length-set}
 use lib.Seq.{take-all, take-suc-set}
 use Rattle.word.specs.Word.{put}
 use Rattle.word.proofs.Laws.{length-put}
-use Rattle.rules.specs.Lent.{stampAt, lentOf}
+use Rattle.rules.specs.declared.Params.{Params}
+use Rattle.rules.specs.Lent.{stampAt, lentOf, fixedOf}
 use Rattle.rules.specs.Steps.{stamped, formatted}
 
 -- `stamp_all`: none, a turn and the end
@@ -55,26 +56,26 @@ alike-whole : {l k : List ℕ} → Alike l k 20 → l ≡ k
 alike-whole {l} {k} f = sym (take-all 20 l (omega (arith, f .one))) ∙ f .front ∙ take-all 20 k (omega (arith, f .other))
 
 -- one store after another: together they leave nothing of what was there
-pub fixed-made : (size pages frames room span : ℕ) (l₀ l₁ l₂ l₃ l₄ l₅ : List ℕ) → length l₀ ≡ 20
-    → l₁ ≡ put 4 l₀ 0 size → l₂ ≡ put 4 l₁ 4 pages → l₃ ≡ put 4 l₂ 8 frames → l₄ ≡ put 4 l₃ 12 room → l₅ ≡ put 4 l₄ 16 span
-    → l₅ ≡ put 4 (put 4 (put 4 (put 4 (put 4 (replicate 20 0) 0 size) 4 pages) 8 frames) 12 room) 16 span
-fixed-made size pages frames room span l₀ l₁ l₂ l₃ l₄ l₅ h a b c d e =
+pub fixed-made : (g : Params) (l₀ l₁ l₂ l₃ l₄ l₅ : List ℕ) → length l₀ ≡ 20
+    → l₁ ≡ put 4 l₀ 0 (g .size) → l₂ ≡ put 4 l₁ 4 (g .pages) → l₃ ≡ put 4 l₂ 8 (g .frames) → l₄ ≡ put 4 l₃ 12 (g .online) → l₅ ≡ put 4 l₄ 16 (g .log)
+    → l₅ ≡ fixedOf g
+fixed-made g l₀ l₁ l₂ l₃ l₄ l₅ h a b c d e =
     let start : Alike l₀ (replicate 20 0) 0 = record { one = h; other = refl; front = refl } in
-    let one = alike-next 0 size start (omega arith) in
-    let two = alike-next 4 pages one (omega arith) in
-    let three = alike-next 8 frames two (omega arith) in
-    let four = alike-next 12 room three (omega arith) in
-    rw (e, d, c, b, a) (alike-whole (alike-next 16 span four (omega arith)))
+    let one = alike-next 0 (g .size) start (omega arith) in
+    let two = alike-next 4 (g .pages) one (omega arith) in
+    let three = alike-next 8 (g .frames) two (omega arith) in
+    let four = alike-next 12 (g .online) three (omega arith) in
+    rw (e, d, c, b, a) (alike-whole (alike-next 16 (g .log) four (omega arith)))
 
 pub marks-made : (pages last : ℕ) (l₀ l₁ l₂ l₃ l₄ : List ℕ) → l₁ ≡ replicate (length l₀) 0 → l₂ ≡ put 4 l₁ 0 last → l₃ ≡ put 4 l₂ 4 last
     → l₄ ≡ stamped pages 0 last l₃ → l₄ ≡ stamped pages 0 last (put 4 (put 4 (replicate (length l₀) 0) 0 last) 4 last)
 marks-made pages last l₀ l₁ l₂ l₃ l₄ a b c d = rw (d, c, b, a)
 
 -- the seven areas of a fresh store
-pub all-made : (f m l s t o p f′ m′ l′ t′ o′ : List ℕ) (size pages frames room span last : ℕ)
-    → f′ ≡ put 4 (put 4 (put 4 (put 4 (put 4 (replicate 20 0) 0 size) 4 pages) 8 frames) 12 room) 16 span
-    → m′ ≡ stamped pages 0 last (put 4 (put 4 (replicate (length m) 0) 0 last) 4 last)
+pub all-made : (f m l s t o p f′ m′ l′ t′ o′ : List ℕ) (g : Params) (last : ℕ)
+    → f′ ≡ fixedOf g
+    → m′ ≡ stamped (g .pages) 0 last (put 4 (put 4 (replicate (length m) 0) 0 last) 4 last)
     → l′ ≡ replicate (length l) 0 → t′ ≡ replicate (length t) 0 → o′ ≡ replicate (length o) 0
-    → lentOf f′ m′ l′ s t′ o′ p ≡ formatted (lentOf f m l s t o p) size pages frames room span last .lent
+    → lentOf f′ m′ l′ s t′ o′ p ≡ formatted (lentOf f m l s t o p) g last .lent
 unfolding formatted
-all-made f m l s t o p f′ m′ l′ t′ o′ size pages frames room span last a b c d e = rw (a, b, c, d, e)
+all-made f m l s t o p f′ m′ l′ t′ o′ g last a b c d e = rw (a, b, c, d, e)

@@ -3,8 +3,10 @@ ghost use mathlib.Core.Path.{_≡_};
 ghost use Prim.Native.Nat.{_+_, _*_, _≤_};
 ghost use lib.ListN.{length, replicate};
 ghost use Rattle.word.specs.Word.{put};
-ghost use Rattle.rules.specs.Lent.{lentOf};
+ghost use Rattle.rules.specs.Lent.{fixedOf};
+ghost use Rattle.rules.specs.Areas.{before, after};
 ghost use Rattle.rules.specs.Steps.{stamped, formatted};
+use rules::Params;
 
 // Zeros, all of it.
 pub fn clear(s: &mut [u8])
@@ -17,16 +19,16 @@ pub fn clear(s: &mut [u8])
     }
 }
 
-// The five parameters: they fill it.
-fn write_fixed(fixed: &mut [u8], size: u64, pages: u64, frames: u64, room: u64, span: u64)
+// The parameters: they fill it.
+fn write_fixed(fixed: &mut [u8], g: Params)
     requires { ⌜ length (now fixed) ≡ 20 ⌝ }
-    ensures { λ r. ⌜ now (fixed .exit) ≡ put 4 (put 4 (put 4 (put 4 (put 4 (replicate 20 0) 0 size) 4 pages) 8 frames) 12 room) 16 span ⌝ }
+    ensures { λ r. ⌜ now (fixed .exit) ≡ fixedOf g ⌝ }
 {
-    word::store(fixed, 0, 4, size);
-    word::store(fixed, 4, 4, pages);
-    word::store(fixed, 8, 4, frames);
-    word::store(fixed, 12, 4, room);
-    word::store(fixed, 16, 4, span);
+    word::store(fixed, 0, 4, g.size);
+    word::store(fixed, 4, 4, g.pages);
+    word::store(fixed, 8, 4, g.frames);
+    word::store(fixed, 12, 4, g.online);
+    word::store(fixed, 16, 4, g.log);
 }
 
 // The stamps of all pages.
@@ -61,18 +63,14 @@ pub fn format(
     tables: &mut [u8],
     online: &mut [u8],
     pool: &[u8],
-    size: u64,
-    pages: u64,
-    frames: u64,
-    room: u64,
-    span: u64,
+    g: Params,
     last: u64,
 )
-    requires { ⌜ (length (now fixed) ≡ 20) × (length (now marks) ≡ 12 + 8 * pages) × (pages ≤ 1024) ⌝ }
-    ensures { λ r. ⌜ lentOf (now (fixed .exit)) (now (marks .exit)) (now (log .exit)) (now (stored .entry)) (now (tables .exit)) (now (online .exit)) (now (pool .entry)) ≡ formatted (lentOf (now (fixed .entry)) (now (marks .entry)) (now (log .entry)) (now (stored .entry)) (now (tables .entry)) (now (online .entry)) (now (pool .entry))) size pages frames room span last .lent ⌝ }
+    requires { ⌜ (length (now fixed) ≡ 20) × (length (now marks) ≡ 12 + 8 * g .pages) × (g .pages ≤ 1024) ⌝ }
+    ensures { λ r. ⌜ after fixed marks log stored tables online pool ≡ formatted (before fixed marks log stored tables online pool) g last .lent ⌝ }
 {
-    write_fixed(fixed, size, pages, frames, room, span);
-    write_marks(marks, pages, last);
+    write_fixed(fixed, g);
+    write_marks(marks, g.pages, last);
     clear(log);
     clear(tables);
     clear(online);

@@ -9,11 +9,11 @@ use lib.Dec.{eqb, ltb}
 use Rattle.record.specs.Rows.{keep}
 use Rattle.record.specs.Record.{pageOf, applied, onPage, ownedBy, committed, wellFormed}
 use Rattle.rules.proofs.Every.{every-keep}
-use Rattle.table.proofs.Laws.{Wide}
+use Rattle.record.proofs.Rows.{Wide}
 use Rattle.rules.specs.Lent.{Lent, pagesOf, framesOf, orderOf, entryAt, entriesOf, onlineOf, inFrame, frameOf, pageIn}
 use Rattle.rules.specs.Steps.{owned, others, framesFreed, aborted}
 use Rattle.rules.specs.Sound.{every}
-use Rattle.onlinecheck.proofs.Laws.{formed-page}
+use Rattle.rules.proofs.Clauses.{formed-page}
 use Rattle.redo.proofs.Loose.{_≅_, ≅-keep}
 use Rattle.redo.proofs.View.{keep-append}
 use Rattle.redo.proofs.Numbered.{keep-others-all, numberedFrom-committed}
@@ -28,7 +28,7 @@ use Rattle.history.proofs.Pasts.{past-abort, open-abort}
 use Rattle.history.proofs.Carried.{lost-ended}
 
 -- the page of each online record is one of the store's
-online-below : {g : Ground} {done : List (List ℕ)} {h : Past} {s : Lent} → Right g done h s → every (λ (r : List ℕ). ltb (pageOf r) (pagesOf s)) (onlineOf s) ≡ true
+pub online-below : {g : Ground} {done : List (List ℕ)} {h : Past} {s : Lent} → Right g done h s → every (λ (r : List ℕ). ltb (pageOf r) (pagesOf s)) (onlineOf s) ≡ true
 online-below {g} {done} {h} {s} r =
     ap (λ (n : ℕ). every (λ (q : List ℕ). ltb (pageOf q) n) (onlineOf s)) (r .durable .pages)
     ∙ online-each r (λ (q : List ℕ). ltb (pageOf q) (g .pages)) (done-paged (r .past)) (formed-page (g .size) (g .pages) (openOf h) (open-every (r .past) (wellFormed (g .size) (g .pages)) (λ q f. f .formed)))
@@ -86,7 +86,7 @@ module _ (g : Ground) (done opened : List (List ℕ)) (live : ℕ → Bool) (fra
 pub keeps-abort : {g : Ground} {done : List (List ℕ)} {h : Past} {s : Lent} (x : ℕ) → 1 ≤ x → x ≤ 32 → Right g done h s → Right g done (aborts h x) (aborted s x .lent)
 unfolding aborted aborts
 keeps-abort {g} {done} {h} {s} x a b r =
-    settle (reads-aborted s x (r .whole) (ranges (r .durable) .room-most) a b (online-below r))
+    settle (reads-aborted s x (r .whole) (ranges (r .durable) .online-most) a b (online-below r))
     (past-abort (r .past) x a) (r .durable)
     (subst (λ (o : List (List ℕ)). LostRight g done o (λ (y : ℕ). not (eqb y x) && h .live y) (framesOf s) (s .durable .marks) (s .durable .stored) (s .lost .pool)
     (framesFreed (framesOf s) (s .lost .tables) (owned s x) (orderOf s)) (set (livesOf s) (x - 1) 0) (judgedEntries (others s x) (owned s x) (entriesOf s)) (others s x))

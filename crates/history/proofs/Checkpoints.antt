@@ -9,7 +9,7 @@ use borrow.Author.Tests.{leb-true}
 use Rattle.word.specs.Word.{num}
 use Rattle.rules.specs.Lent.{Lent, pagesOf}
 use Rattle.rules.specs.Steps.{left, due, compacted, compactStep, closed, afterPages, checkpointed}
-use Rattle.compact.proofs.Shapes.{fixed-step}
+use Rattle.rules.proofs.Kept.{fixed-step}
 use Rattle.history.specs.Past.{Past}
 use Rattle.history.specs.Run.{afterSteps}
 use Rattle.history.proofs.Right.{Ground, Right}

@@ -1,36 +1,38 @@
 -- Close keeps what is right: no record is dropped that a stored page lacks, and restart will pass over none of these.
-use Prim.Native.Nat.{ℕ, _+_, _-_, _≤_, _<_}
+use Prim.Native.Nat.{ℕ, zero, suc, _+_, _-_, _≤_, _<_}
 use native.Mathlib.Omega.{arith}
 use mathlib.Core.Path.{_≡_, refl, sym, ap, _∙_, subst}
 use mathlib.Core.Logic.{_⊎_, inl, inr}
-use mathlib.Core.Bool.{Bool, true, false, not, _&&_, _||_}
+use mathlib.Core.Bool.{Bool, true, false, cond, not, _&&_, _||_}
 use mathlib.Core.List.{List, _++_}
 use lib.ListN.{length, drop}
 use lib.Seq.{drop-drop}
 use lib.Dec.{eqb, leb, ltb}
-use borrow.Author.Tests.{eq-eqb, ne-eqb, leb-true, le-leb, ltb-true}
+use borrow.Author.Tests.{eqb-true, eqb-false, eq-eqb, ne-eqb, leb-true, le-leb, ltb-true, ltb-false, lt-ltb, le-ltb}
 use Rattle.word.proofs.Tests.{and-both, and-in}
 use Rattle.record.specs.Rows.{keep}
 use Rattle.record.specs.Record.{pageOf, numberOf, committed, applied, onPage, committedOn, smallest}
-use Rattle.rules.specs.Lent.{Lent, pagesOf, framesOf, roomOf, lastOf, closedOf, loggedOf, dirtyOf, firstOf, logOf, orderOf, entriesOf, onlineOf, pageIn}
+use Rattle.rules.specs.Lent.{Lent, pagesOf, framesOf, onlineSizeOf, lastOf, closedOf, loggedOf, dirtyOf, firstOf, logOf, orderOf, entriesOf, onlineOf, pageIn}
 use Rattle.rules.specs.Sound.{every, between}
 use Rattle.rules.specs.Steps.{droppedBy, closed}
-use Rattle.rules.proofs.Extremes.{numberAtMost}
+use Rattle.rules.proofs.Extremes.{hasNumber, numberAtMost, least as leastOf, smallest-nothing, smallest-split}
 use Rattle.rules.proofs.Needed.{dropped-below}
-use Rattle.onlinecheck.specs.Online.{pageBelow}
-use Rattle.onlinecheck.proofs.Rows.{every-imp}
+use Rattle.rules.specs.Shape.{pageBelow}
+use Rattle.rules.proofs.Every.{every-imp, every-keep}
 use Rattle.redo.proofs.Loose.{_≅_}
-use Rattle.redo.proofs.Views.{keep-same-where}
+use Rattle.redo.proofs.Views.{keep-same-where, keep-both, keep-all, keep-none}
 use Rattle.redo.proofs.Reader.{every-both}
 use Rattle.readback.proofs.Seen.{livesOf}
 use Rattle.readback.proofs.Marks.{marks-close, last-close, closed-close, logged-close, stamp-close, dirty-close}
 use Rattle.readback.proofs.Log.{log-close, log-zero-close, log-length-close}
 use Rattle.readback.proofs.Lost.{reads-closed}
+use Rattle.keeps.proofs.Tests.{every-all}
 use Rattle.history.specs.Past.{Past}
 use Rattle.history.proofs.Right.{Ground, DurableRight, LostRight, Right, rowsOf, openOf, aboveStamp}
 use Rattle.history.proofs.Settle.{settle}
 use Rattle.history.proofs.Facts.{done-paged, done-committed, open-unset, open-every, dirt-same, marks-long, logged-last, online-each}
 use Rattle.history.proofs.Known.{rows-last}
+use Rattle.history.proofs.Aborts.{online-below}
 use Rattle.history.proofs.Carried.{lost-restated}
 use Rattle.history.proofs.Least.{kept-numbered, kept-from, least-within, lacked-from, lacked-dirty}
 
@@ -106,13 +108,16 @@ module _ (g : Ground) (done : List (List ℕ)) (h : Past) (s : Lent) (r : Right 
   first-is : firstOf after ≡ firstOf s + droppedBy s
   first-is = omega (arith, dropped-few, logged-last (r .durable), last-same, logged-is)
 
+  -- the committed online records have numbers
+  numbers-there : every hasNumber (keep committed (onlineOf s)) ≡ true
+  numbers-there = kept-numbered above (rowsOf g done) (openOf h) (r .lost .online-is) (firstOf s) (lastOf s) (omega arith) (to-last (firstOf s) (r .durable .needed)) (open-unset (r .past)) committed (λ q e. e)
+
   -- what no stored page holds is online, and no record is dropped that is still online: so it is still in the log
   needed-after : every (λ (q : List ℕ). not (above q) || leb (firstOf after) (numberOf q)) (rowsOf g done) ≡ true
   needed-after =
       ap (λ (n : ℕ). every (λ (q : List ℕ). not (above q) || leb n (numberOf q)) (rowsOf g done)) first-is
       ∙ lacked-from above (rowsOf g done) (openOf h) (r .lost .online-is) (done-committed (r .past)) (firstOf s + droppedBy s)
-      (dropped-below s
-      (kept-numbered above (rowsOf g done) (openOf h) (r .lost .online-is) (firstOf s) (lastOf s) (omega arith) (to-last (firstOf s) (r .durable .needed)) (open-unset (r .past)) committed (λ q e. e))
+      (dropped-below s numbers-there
       (kept-from above (rowsOf g done) (openOf h) (r .lost .online-is) (firstOf s) (lastOf s) (omega arith) (to-last (firstOf s) (r .durable .needed)) (open-unset (r .past)) committed (λ q e. e)))
 
   -- a page's dirty number is none, or one of the log's
@@ -187,7 +192,7 @@ module _ (g : Ground) (done : List (List ℕ)) (h : Past) (s : Lent) (r : Right 
         first = omega (arith, closed-is, last-same);
         needed = restamped (λ (q : List ℕ). leb (firstOf after) (numberOf q)) needed-after;
         entered = restamped (λ (q : List ℕ). not (leb (numberOf q) (closedOf after) && eqb (dirtyOf after (pageOf q)) 0)) entered-after;
-        fits = subst (λ (l : List (List ℕ)). length l ≤ roomOf s) (sym lacked-same) (r .durable .fits);
+        fits = subst (λ (l : List (List ℕ)). length l ≤ onlineSizeOf s) (sym lacked-same) (r .durable .fits);
         page = λ p k. r .durable .page p k
             ∙ ap (λ (l : List (List ℕ)). applied l (pageIn (g .size) p (g .start)))
             (sym (keep-same-where (pageBelow (g .pages)) (λ (q : List ℕ). onPage p q && not (aboveStamp (after .durable .marks) q)) (λ (q : List ℕ). onPage p q && not (above q)) (λ q e. ap (λ (t : Bool). onPage p q && not t) (above-same q e)) (rowsOf g done) (done-paged (r .past))));
@@ -196,6 +201,40 @@ module _ (g : Ground) (done : List (List ℕ)) (h : Past) (s : Lent) (r : Right 
   lost-after : LostRight g done (openOf h) (h .live) (framesOf after) (after .durable .marks) (after .durable .stored) (after .lost .pool) (orderOf s) (livesOf s) (entriesOf s) (onlineOf s)
   unfolding closed
   lost-after = lost-restated (r .lost) (subst (λ (k : List (List ℕ)). onlineOf s ≅ k ++ openOf h) (sym lacked-same) (r .lost .online-is)) (λ p. refl) (λ p page. refl)
+
+-- the smallest nonzero dirty number of the first n pages, or 0
+unfoldable pub leastDirty : Lent → ℕ → ℕ
+leastDirty s zero = 0
+leastDirty s (suc n) = leastOf (leastDirty s n) (dirtyOf s n)
+
+one-more : (p n : ℕ) → ltb p (suc n) ≡ (ltb p n || eqb p n)
+one-more p n = go (ltb p n) refl (eqb p n) refl
+  where
+    go : (x : Bool) → ltb p n ≡ x → (y : Bool) → eqb p n ≡ y → ltb p (suc n) ≡ (x || y)
+    go true e y f = lt-ltb p (suc n) (omega (arith, ltb-true p n e))
+    go false e true f = lt-ltb p (suc n) (omega (arith, eqb-true p n f))
+    go false e false f = let d : (p ≡ n → ⊥) = eqb-false p n f in le-ltb p (suc n) (omega (arith, ltb-false p n e))
+
+-- what close drops is what the new dirty table says: the log's records below its smallest number, or all if it has none
+module _ {g : Ground} {done : List (List ℕ)} {h : Past} {s : Lent} (r : Right g done h s) where
+  abbrev still : List (List ℕ)
+  still = keep committed (onlineOf s)
+
+  least-below : (n : ℕ) → n ≤ pagesOf s → leastDirty (closed s .lent) n ≡ smallest 0 (keep (λ (q : List ℕ). ltb (pageOf q) n) still)
+  unfolding leastDirty
+  least-below zero m = sym (ap (λ (l : List (List ℕ)). smallest 0 l) (keep-none (λ (q : List ℕ). ltb (pageOf q) 0) still (every-all (λ (q : List ℕ). not (ltb (pageOf q) 0)) (λ q. ap not (le-ltb (pageOf q) 0 (omega arith))) still)) ∙ smallest-nothing)
+  least-below (suc n) m =
+      let k : n < g .pages = omega (arith, r .durable .pages) in
+      let d : dirtyOf (closed s .lent) n ≡ smallest 0 (keep (onPage n) still) = dirty-is g done h s r n k ∙ ap (λ (l : List (List ℕ)). smallest 0 l) (sym (keep-both (onPage n) committed (onlineOf s))) in
+      (λ i. leastOf (least-below n (omega arith) i) (d i))
+      ∙ sym (smallest-split (λ (q : List ℕ). ltb (pageOf q) n) (onPage n) (λ (q : List ℕ). ltb (pageOf q) (suc n)) (λ q. one-more (pageOf q) n) still (numbers-there g done h s r))
+
+  pub close-drops : droppedBy s ≡ cond (eqb (leastDirty (closed s .lent) (pagesOf s)) 0) (loggedOf s) (leastDirty (closed s .lent) (pagesOf s) - firstOf s)
+  unfolding droppedBy
+  close-drops =
+      let all : keep (λ (q : List ℕ). ltb (pageOf q) (pagesOf s)) still ≡ still = keep-all (λ (q : List ℕ). ltb (pageOf q) (pagesOf s)) still (every-keep committed (λ (q : List ℕ). ltb (pageOf q) (pagesOf s)) (onlineOf s) (online-below r)) in
+      let e : leastDirty (closed s .lent) (pagesOf s) ≡ smallest 0 still = least-below (pagesOf s) (omega arith) ∙ ap (λ (l : List (List ℕ)). smallest 0 l) all in
+      sym (ap (λ (n : ℕ). cond (eqb n 0) (loggedOf s) (n - firstOf s)) e)
 
 -- close keeps what is right
 pub keeps-close : {g : Ground} {done : List (List ℕ)} {h : Past} {s : Lent} → Right g done h s → Right g done h (closed s .lent)

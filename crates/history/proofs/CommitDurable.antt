@@ -13,13 +13,12 @@ use Rattle.word.specs.Word.{num}
 use Rattle.word.proofs.Tests.{and-both}
 use Rattle.record.specs.Rows.{keep}
 use Rattle.record.specs.Record.{pageOf, numberOf, bodyOf, applied, onPage, ownedBy, wellFormed}
-use Rattle.table.proofs.Laws.{Wide, wide-keep, wide-bodies}
-use Rattle.rules.specs.Lent.{Lent, roomOf, spanOf, lastOf, closedOf, loggedOf, firstOf, stampAt, dirtyOf, logOf, onlineOf, pageIn}
+use Rattle.record.proofs.Rows.{Wide, wide-keep, wide-bodies}
+use Rattle.rules.specs.Lent.{Lent, onlineSizeOf, logSizeOf, lastOf, closedOf, loggedOf, firstOf, stampAt, dirtyOf, logOf, onlineOf, pageIn}
 use Rattle.rules.specs.Steps.{owned, committing}
 use Rattle.rules.specs.Sound.{every}
-use Rattle.rules.proofs.Every.{or-right}
-use Rattle.onlinecheck.proofs.Rows.{every-imp}
-use Rattle.onlinecheck.proofs.Laws.{formed-page}
+use Rattle.rules.proofs.Every.{or-right, every-imp}
+use Rattle.rules.proofs.Clauses.{formed-page}
 use Rattle.redo.proofs.View.{keep-append}
 use Rattle.redo.proofs.Views.{keep-same, keep-all, keep-none}
 use Rattle.redo.proofs.Loose.{numberedFrom, ≅-length}
@@ -27,9 +26,9 @@ use Rattle.redo.proofs.Numbered.{numberedFrom-append, numberedFrom-length, numb
 use Rattle.redo.proofs.Reader.{every-both}
 use Rattle.readback.proofs.Marks.{marks-commit, last-commit, closed-commit, logged-commit, stamp-commit, dirty-commit}
 use Rattle.readback.proofs.Log.{log-commit, log-zero-commit, log-length-commit}
+use Rattle.keeps.proofs.Tests.{every-append}
 use Rattle.history.specs.Past.{Past}
 use Rattle.history.proofs.Right.{Ground, Right, DurableRight, rowsOf, openOf, aboveStamp}
-use Rattle.history.proofs.Tested.{every-append}
 use Rattle.history.proofs.Facts.{dirt-same, ranges, marks-long}
 
 -- of records numbered on from L: each number is above L
@@ -73,7 +72,7 @@ module _ (a b : List ℕ → Bool) (same : (r : List ℕ) → b r ≡ a r) (old 
       ∙ every-append (λ (r : List ℕ). not (a r) || c r) old new p (every-imp c (λ (r : List ℕ). not (a r) || c r) (λ r. or-right (not (a r)) (c r)) new q)
 
 module _ {g : Ground} {done : List (List ℕ)} {h : Past} {s : Lent} (x : ℕ) (r : Right g done h s)
-    (space : loggedOf s + length (owned s x) ≤ spanOf s) (numbers : lastOf s + length (owned s x) ≤ 4294967295)
+    (space : loggedOf s + length (owned s x) ≤ logSizeOf s) (numbers : lastOf s + length (owned s x) ≤ 4294967295)
     (formed : every (wellFormed (g .size) (g .pages)) (map bodyOf (owned s x)) ≡ true) (known : length (owned s x) ≤ length (openOf h)) where
   abbrev more : List (List ℕ)
   more = map bodyOf (owned s x)
@@ -88,7 +87,7 @@ module _ {g : Ground} {done : List (List ℕ)} {h : Past} {s : Lent} (x : ℕ) (
   more-length = length-map (owned s x) bodyOf
 
   logs : loggedOf s + length (owned s x) ≤ 4294967295
-  logs = omega (arith, ranges (r .durable) .span-most)
+  logs = omega (arith, ranges (r .durable) .log-most)
 
   -- the marks that a commit moves on, and the first number of the log, which it leaves
   last-on : lastOf (committing s x .lent) ≡ lastOf s + length (owned s x)
@@ -146,7 +145,7 @@ module _ {g : Ground} {done : List (List ℕ)} {h : Past} {s : Lent} (x : ℕ) (
       ∙ sym (drop-append-le d done more (omega arith))
       ∙ ap (λ (n : ℕ). drop n (done ++ more)) e
 
-  room-left : length (keep (aboveStamp after-marks) (rowsOf g (done ++ more))) ≤ roomOf s
+  room-left : length (keep (aboveStamp after-marks) (rowsOf g (done ++ more))) ≤ onlineSizeOf s
   unfolding newer
   room-left =
       let old : List (List ℕ) = keep (aboveStamp (s .durable .marks)) (rowsOf g done) in

@@ -1,40 +1,35 @@
 -- Commit keeps what is right: what it numbers is all that was ever committed, and more at its end.
 use Prim.Native.Nat.{ℕ, _+_, _-_, _≤_}
 use native.Mathlib.Omega.{arith}
-use mathlib.Core.Path.{_≡_, refl, sym, ap, _∙_, subst}
-use mathlib.Core.Bool.{Bool, true, not, _&&_, _||_}
+use mathlib.Core.Path.{_≡_, sym, ap, _∙_, subst}
+use mathlib.Core.Bool.{Bool, true, not, _&&_}
 use mathlib.Core.List.{List, _++_, map, append-assoc}
 use lib.ListN.{length, set}
 use lib.Seq.{drop-append-seam}
 use lib.Dec.{eqb}
-use Rattle.record.specs.Rows.{keep, any}
-use Rattle.record.specs.Record.{committed, bodyOf, onPage, ownedBy, numberRows, wellFormed}
+use Rattle.record.specs.Rows.{keep}
+use Rattle.record.specs.Record.{committed, bodyOf, ownedBy, numberRows, wellFormed}
 use Rattle.rules.proofs.Every.{every-keep}
-use Rattle.table.proofs.Laws.{Wide, keep-length}
-use Rattle.rules.specs.Lent.{Lent, framesOf, spanOf, lastOf, loggedOf, orderOf, entriesOf, onlineOf}
+use Rattle.record.proofs.Rows.{Wide, keep-length}
+use Rattle.rules.specs.Lent.{Lent, framesOf, logSizeOf, lastOf, loggedOf, orderOf, entriesOf, onlineOf}
 use Rattle.rules.specs.Steps.{owned, committing}
 use Rattle.rules.specs.Sound.{every, pairs, apart}
-use Rattle.redo.proofs.View.{SameBodies, none, one, body-page, numberRows-bodies, page-numberRows}
+use Rattle.redo.proofs.View.{numberRows-bodies, page-numberRows}
 use Rattle.redo.proofs.Loose.{_≅_, then, numberedFrom, ≅-equal, ≅-number}
 use Rattle.redo.proofs.Numbered.{numberedFrom-committed}
 use Rattle.redo.proofs.Commits.{commit-loose}
 use Rattle.readback.proofs.Seen.{livesOf}
 use Rattle.readback.proofs.Lost.{reads-committing}
+use Rattle.keeps.proofs.Numbering.{bodies-any}
+use Rattle.keeps.proofs.Tests.{every-drop}
 use Rattle.history.specs.Past.{Past, commits}
 use Rattle.history.proofs.Right.{Ground, Right, PastRight, LostRight, rowsOf, openOf, uncommitted, aboveStamp}
 use Rattle.history.proofs.Settle.{settle}
-use Rattle.history.proofs.Tested.{every-drop}
 use Rattle.history.proofs.Facts.{open-unset}
 use Rattle.history.proofs.Pasts.{open-commit, owned-made, past-commit}
 use Rattle.history.proofs.Known.{last-read, owned-read}
 use Rattle.history.proofs.Carried.{lost-ended, lost-restated}
 use Rattle.history.proofs.CommitDurable.{above-commit, durable-commit}
-
--- rows with the same bodies are on the same pages
-bodies-any : (p : ℕ) {l m : List (List ℕ)} → SameBodies l m → any (onPage p) l ≡ any (onPage p) m
-unfolding any
-bodies-any p none = refl
-bodies-any p (one {r} {s} {l} {m} e h) = λ i. eqb (body-page r s e i) p || bodies-any p h i
 
 -- the lost part, as lists: an owner's records `more` are numbered from k on, and no stored page has them
 module _ {g : Ground} {done opened : List (List ℕ)} {live : ℕ → Bool} {frames : ℕ} {marks stored pool order lives entries : List ℕ} {online : List (List ℕ)}
@@ -61,7 +56,7 @@ module _ {g : Ground} {done opened : List (List ℕ)} {live : ℕ → Bool} {fra
   lost-commit = lost-restated l online-numbered (λ p. sym (bodies-any p (numberRows-bodies x k online))) (λ p page. sym (page-numberRows p x k online page))
 
 -- "Commit numbers the owner's k records L+1 to L+k in table order, appends them to the log, clears the owner, ends the transaction."
-pub keeps-commit : {g : Ground} {done : List (List ℕ)} {h : Past} {s : Lent} (x : ℕ) → 1 ≤ x → x ≤ 32 → loggedOf s + length (owned s x) ≤ spanOf s → lastOf s + length (owned s x) ≤ 4294967295 → Right g done h s → Right g (done ++ map bodyOf (owned s x)) (commits h x) (committing s x .lent)
+pub keeps-commit : {g : Ground} {done : List (List ℕ)} {h : Past} {s : Lent} (x : ℕ) → 1 ≤ x → x ≤ 32 → loggedOf s + length (owned s x) ≤ logSizeOf s → lastOf s + length (owned s x) ≤ 4294967295 → Right g done h s → Right g (done ++ map bodyOf (owned s x)) (commits h x) (committing s x .lent)
 unfolding committing commits
 keeps-commit {g} {done} {h} {s} x low high space numbers r =
     settle (reads-committing s x (r .whole) low high) past (durable-commit x r space numbers formed known)

@@ -10,8 +10,8 @@ use borrow.Author.Tests.{leb-true, eqb-true}
 use Rattle.word.proofs.Tests.{and-both}
 use Rattle.record.specs.Rows.{keep, any}
 use Rattle.record.specs.Record.{applied, onPage, committedOn, smallest, greatest}
-use Rattle.apply.proofs.Laws.{length-applied}
-use Rattle.table.proofs.Laws.{keep-length}
+use Rattle.record.proofs.Changes.{length-applied}
+use Rattle.record.proofs.Rows.{keep-length}
 use Rattle.rules.specs.Lent.{Durable, Lent, pagesOf, framesOf, lastOf, entryOf, entriesOf, orderOf, onlineOf, inFrame, frameOf, isDirty, cleanIn, pageIn}
 use Rattle.rules.specs.Steps.{freedOf, foldable, due, fromFrame, compactedPage, compactedEntry, compactedOrder, unfolded, compacted}
 use Rattle.redo.proofs.Loose.{_≅_}
@@ -20,13 +20,14 @@ use Rattle.seats.proofs.Places.{half-none, clean-frame, clean-not-dirty, seated
 use Rattle.readback.proofs.Pages.{page-length}
 use Rattle.readback.proofs.Seen.{livesOf}
 use Rattle.readback.proofs.Lost.{entry-whole, reads-compacted}
+use Rattle.keeps.proofs.Compacts.{stays, stays-page, stays-other}
 use Rattle.history.specs.Past.{Past}
 use Rattle.history.proofs.Right.{Ground, DurableRight, LostRight, Right, rowsOf, openOf, aboveStamp}
 use Rattle.history.proofs.Settle.{settle}
 use Rattle.history.proofs.Facts.{done-committed, done-rising, open-unset, ranges}
 use Rattle.history.proofs.Known.{rows-last}
 use Rattle.history.proofs.Carried.{lost-entry}
-use Rattle.history.proofs.Folding.{Folds, stays, stays-page, stays-none, folds-all, stays-other, folded-most, above-now, fewer-above, stays-now, page-now}
+use Rattle.history.proofs.Folding.{Folds, stays-none, folds-all, folded-most, above-now, fewer-above, stays-now, page-now}
 use Rattle.history.proofs.Restamped.{restamped, stamp-here, stamp-other, page-here, page-there, restamped-right}
 
 module _ {g : Ground} {done opened : List (List ℕ)} {live : ℕ → Bool} {frames : ℕ} {marks stored pool order lives entries : List ℕ} {online : List (List ℕ)}
@@ -169,7 +170,7 @@ module _ {g : Ground} {done : List (List ℕ)} {h : Past} {s : Lent} (r : Right 
   compact-right : Right g done h (compacted s p .lent)
   unfolding compacted
   compact-right =
-      settle (reads-compacted s p (r .whole) (ranges (r .durable) .room-most) m) (r .past) compact-durable compact-lost
+      settle (reads-compacted s p (r .whole) (ranges (r .durable) .online-most) m) (r .past) compact-durable compact-lost
 
 -- compact keeps what is right
 pub keeps-compact : {g : Ground} {done : List (List ℕ)} {h : Past} {s : Lent} (p minDel maxAge : ℕ) → p < pagesOf s → due s p minDel maxAge ≡ true → Right g done h s → Right g done h (compacted s p .lent)

@@ -11,19 +11,18 @@ use lib.Dec.{eqb, leb, ltb}
 use borrow.Author.Tests.{eqb-true, ne-eqb, leb-true, le-leb, ltb-true}
 use Rattle.word.proofs.Tests.{and-both}
 use Rattle.record.specs.Record.{ownerOf, numberOf, committed, wellFormed}
-use Rattle.rules.specs.Lent.{Lent, Durable, sizeOf, pagesOf, framesOf, roomOf, spanOf, lastOf, loggedOf, onlineOf}
+use Rattle.rules.specs.Lent.{Lent, paramsOf, Durable, sizeOf, pagesOf, framesOf, onlineSizeOf, logSizeOf, lastOf, loggedOf, onlineOf}
 use Rattle.rules.specs.Sound.{every, pairs, between}
-use Rattle.rules.proofs.Every.{or-right, every-kept}
+use Rattle.rules.proofs.Every.{or-right, every-kept, every-imp}
 use Rattle.rules.proofs.Extremes.{numberAtMost}
-use Rattle.onlinecheck.specs.Online.{pageBelow}
-use Rattle.onlinecheck.proofs.Rows.{every-imp}
-use Rattle.onlinecheck.proofs.Laws.{formed-page}
-use Rattle.durable.specs.Ranges.{Ranged}
-use Rattle.durable.proofs.Laws.{ranged}
+use Rattle.rules.specs.Shape.{pageBelow, Ranged}
+use Rattle.rules.proofs.Clauses.{formed-page}
+use Rattle.rules.proofs.Ranges.{ranged}
 use Rattle.redo.proofs.Views.{rising}
 use Rattle.redo.proofs.Numbered.{numberedFrom-committed, numberedFrom-formed, numberedFrom-from, numberedFrom-rising}
+use Rattle.readback.proofs.Seen.{only}
 use Rattle.history.specs.Past.{Past}
-use Rattle.history.proofs.Right.{Ground, rowsOf, uncommitted, openOf, aboveStamp, only, openRow, PastRight, DurableRight, Right}
+use Rattle.history.proofs.Right.{Ground, rowsOf, uncommitted, openOf, aboveStamp, openRow, PastRight, DurableRight, Right}
 use Rattle.history.proofs.Tested.{online-all}
 
 -- what is said of an uncommitted record
@@ -90,8 +89,8 @@ dirt-same e f k (inr h) = inr (omega (arith, e, f, h .0), omega (arith, f, k, h 
 
 module _ {g : Ground} {done : List (List ℕ)} {d : Durable} (r : DurableRight g done d) where
   -- what format fixed is in its ranges, and the areas have the lengths that it says
-  pub ranges : Ranged (sizeOf (only d)) (pagesOf (only d)) (framesOf (only d)) (roomOf (only d)) (spanOf (only d))
-  ranges = ranged (sizeOf (only d)) (pagesOf (only d)) (framesOf (only d)) (roomOf (only d)) (spanOf (only d)) (r .range)
+  pub ranges : Ranged (paramsOf (only d))
+  ranges = ranged (paramsOf (only d)) (r .range)
 
   pub marks-long : length (d .marks) ≡ 12 + 8 * pagesOf (only d)
   marks-long = r .marks ∙ ap (λ (n : ℕ). 12 + 8 * n) (sym (r .pages))

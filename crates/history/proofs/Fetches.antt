@@ -3,32 +3,33 @@
 use Prim.Native.Nat.{ℕ, _+_, _*_, _≤_, _<_, _^_}
 use native.Mathlib.Omega.{arith}
 use mathlib.Core.Path.{_≡_, refl, sym, ap, _∙_, subst}
-use mathlib.Core.Bool.{Bool, true, false, cond, not, _&&_, _||_, or-true, or-false, or-assoc}
+use mathlib.Core.Bool.{Bool, true, false, cond, not, _||_, or-true, Bool·not-not}
 use mathlib.Core.List.{List, [], _∷_, _++_, append-nil, append-assoc}
 use lib.ListN.{length, getD, set}
-use lib.Dec.{eqb, ltb}
+use lib.Dec.{eqb}
 use borrow.Author.Tests.{eqb-true, eqb-false, eq-eqb, ne-eqb, lt-ltb, le-leb}
 use Rattle.record.specs.Rows.{keep, consIf, any}
-use Rattle.record.specs.Record.{pageOf, offsetOf, lengthOf, ownerOf, committed, isLength, wellFormed, apply, applied, rowOf, onPage, shareByte}
+use Rattle.record.specs.Record.{pageOf, offsetOf, lengthOf, ownerOf, committed, isLength, wellFormed, apply, applied, rowOf, onPage}
 use Rattle.record.proofs.Laws.{length-most}
-use Rattle.apply.proofs.Laws.{length-apply}
+use Rattle.record.proofs.Changes.{length-apply}
 use Rattle.order.specs.Order.{touched, frameFor}
-use Rattle.table.proofs.Laws.{length-rowOf}
-use Rattle.rules.specs.Lent.{Lent, sizeOf, pagesOf, framesOf, roomOf, countOf, orderOf, entryOf, entriesOf, onlineOf, inFrame, frameOf, isDirty, dirtyIn, pageIn, withPage}
+use Rattle.record.proofs.Rows.{length-rowOf}
+use Rattle.rules.specs.Lent.{Lent, sizeOf, pagesOf, framesOf, onlineSizeOf, countOf, orderOf, entryOf, entriesOf, onlineOf, inFrame, frameOf, isDirty, dirtyIn, pageIn, withPage}
 use Rattle.rules.specs.Steps.{placed, placeOf, rebuilt, fetchedEntries, fetchedPool, readStep, updated}
-use Rattle.rules.specs.Calls.{clashes, held}
+use Rattle.rules.specs.Calls.{heldToUpdate}
 use Rattle.rules.specs.Sound.{every, apart}
-use Rattle.onlinecheck.proofs.Rows.{every-imp}
+use Rattle.rules.proofs.Every.{every-imp}
 use Rattle.redo.proofs.View.{applied-append, keep-append}
 use Rattle.redo.proofs.Views.{keep-none}
 use Rattle.redo.proofs.Loose.{then, ≅-equal, ≅-before, ≅-any}
 use Rattle.redo.proofs.Reader.{none-each, none-after}
-use Rattle.redo.proofs.Numbered.{row-page, row-offset, row-length, row-kind, row-value, row-owner, row-number}
+use Rattle.record.proofs.Fields.{row-page, row-offset, row-length, row-kind, row-value, row-owner, row-number}
 use Rattle.seats.proofs.Seated.{Seated}
 use Rattle.seats.proofs.Places.{dirty-frame, dirty-dirty, placed-length, placed-in, placed-frame, placed-dirty, placed-stays, seated-below, seated-apart, seated-length, seated-frame, seated-touch, seated-place, seated-dirty}
 use Rattle.readback.proofs.Seen.{livesOf}
 use Rattle.readback.proofs.Pages.{page-length, page-same, page-other}
 use Rattle.readback.proofs.Lost.{entry-whole, length-rebuilt, length-fetched-pool, reads-read, reads-updated}
+use Rattle.keeps.proofs.Tests.{any-last}
 use Rattle.history.specs.Past.{Past, updates}
 use Rattle.history.proofs.Right.{Ground, LostRight, Right, aboveStamp, rowsOf, openOf, openRow}
 use Rattle.history.proofs.Settle.{settle}
@@ -173,12 +174,6 @@ module _ {g : Ground} {done : List (List ℕ)} {h : Past} {s : Lent} (p : ℕ) (
   unfolding readStep
   keeps-read = settle (reads-read s p (r .whole) order-fits below rebuilt-length) (r .past) (r .durable) (fetched-right .0)
 
--- one more row
-any-last : (b : List ℕ → Bool) (l : List (List ℕ)) (r : List ℕ) → any b (l ++ (r ∷ [])) ≡ (any b l || b r)
-unfolding any
-any-last b [] r = or-false (b r)
-any-last b (x ∷ l) r = ap (λ (t : Bool). b x || t) (any-last b l r) ∙ sym (or-assoc (b x) (any b l) (b r))
-
 -- update of page p in its frame f: "applies, appends the record with its owner, and marks the page dirty"
 module _ {g : Ground} {done opened : List (List ℕ)} {live : ℕ → Bool} {frames : ℕ} {marks stored pool order lives entries : List ℕ} {online : List (List ℕ)} (l : LostRight g done opened live frames marks stored pool order lives entries online) (p f : ℕ) (m : p < g .pages) (i : inFrame (getD entries p 0) ≡ true) (at : frameOf (getD entries p 0) ≡ f) (long : length pool ≡ g .size * frames) (r : List ℕ) (on : pageOf r ≡ p) where
   -- the row is one of page p and of no other
@@ -230,10 +225,10 @@ module _ {g : Ground} {done opened : List (List ℕ)} {live : ℕ → Bool} {fra
 
 -- update with any row of the history's kind that is apart from each open one
 update-right : {g : Ground} {done : List (List ℕ)} {h : Past} {s : Lent} (r : List ℕ) → pageOf r < pagesOf s → length r ≡ 19 → committed r ≡ false → openRow g (h .live) r ≡ true
-    → every (λ (a : List ℕ). apart a r) (openOf h) ≡ true → countOf s < roomOf s → Right g done h s → Right g done (updates h r) (updated s r .lent)
+    → every (λ (a : List ℕ). apart a r) (openOf h) ≡ true → countOf s < onlineSizeOf s → Right g done h s → Right g done (updates h r) (updated s r .lent)
 unfolding updated updates
 update-right {g} {done} {h} {s} r m long c o a room w =
-    settle (reads-updated s r (w .whole) long (omega arith) (ranges (w .durable) .room-most) (order-fits p m w) (below p m w) (rebuilt-length p m w))
+    settle (reads-updated s r (w .whole) long (omega arith) (ranges (w .durable) .online-most) (order-fits p m w) (below p m w) (rebuilt-length p m w))
     (past-update (w .past) r long c o a) (w .durable)
     (subst (λ (k : List (List ℕ)). After k (sizeOf s)) (sym (open-update h r c)) (subst (λ (n : ℕ). After (openOf h ++ (r ∷ [])) n) (sym size) after))
   where
@@ -258,26 +253,15 @@ update-right {g} {done} {h} {s} r m long c o a room w =
         lost-update (fetched-right p m w .0) p f (there p m w) (fetched-right p m w .1) (fetched-right p m w .2) e r refl
 
 -- refusal 6 did not come: the row is apart from each open one
-apart-row : (x p offset w : ℕ) (r : List ℕ) → pageOf r ≡ p → offsetOf r ≡ offset → lengthOf r ≡ w → ownerOf r ≡ x → (a : List ℕ) → not (clashes x p offset w a) ≡ true → apart a r ≡ true
-unfolding clashes apart shareByte
-apart-row x p offset w r e₁ e₂ e₃ e₄ a h =
-    rw (e₁, e₂, e₃) (ap (λ (y : ℕ). committed a || eqb y 0 || eqb (ownerOf a) y || not (eqb (pageOf a) p && ltb (offsetOf a) (offset + w) && ltb offset (offsetOf a + lengthOf a))) e₄
-    ∙ go (committed a) (eqb x 0) (eqb (ownerOf a) x) (eqb (pageOf a) p) (ltb (offsetOf a) (offset + w)) (ltb offset (offsetOf a + lengthOf a)) h)
-  where
-    go : (c d o y z u : Bool) → not (not c && not o && y && z && u) ≡ true → (c || d || o || not (y && z && u)) ≡ true
-    go true d o y z u k = refl
-    go false true o y z u k = refl
-    go false false true y z u k = refl
-    go false false false y z u k = k
-
-apart-open : {g : Ground} {done : List (List ℕ)} {h : Past} {s : Lent} (x p offset w : ℕ) (r : List ℕ) → pageOf r ≡ p → offsetOf r ≡ offset → lengthOf r ≡ w → ownerOf r ≡ x → held (onlineOf s) x p offset w ≡ false → Right g done h s → every (λ (a : List ℕ). apart a r) (openOf h) ≡ true
-apart-open {g} {done} {h} {s} x p offset w r e₁ e₂ e₃ e₄ k t =
-    let all : any (clashes x p offset w) (keep (aboveStamp (s .durable .marks)) (rowsOf g done) ++ openOf h) ≡ false = sym (≅-any (clashes x p offset w) (t .lost .online-is)) ∙ k in
-    every-imp (λ (a : List ℕ). not (clashes x p offset w a)) (λ (a : List ℕ). apart a r) (λ a y. apart-row x p offset w r e₁ e₂ e₃ e₄ a y) (openOf h)
-    (none-each (clashes x p offset w) (openOf h) (none-after (clashes x p offset w) (keep (aboveStamp (s .durable .marks)) (rowsOf g done)) (openOf h) all))
+apart-open : {g : Ground} {done : List (List ℕ)} {h : Past} {s : Lent} (r : List ℕ) → heldToUpdate (onlineOf s) r ≡ false → Right g done h s → every (λ (a : List ℕ). apart a r) (openOf h) ≡ true
+apart-open {g} {done} {h} {s} r k t =
+    let b : List ℕ → Bool = λ (a : List ℕ). not (apart a r) in
+    let all : any b (keep (aboveStamp (s .durable .marks)) (rowsOf g done) ++ openOf h) ≡ false = sym (≅-any b (t .lost .online-is)) ∙ k in
+    every-imp (λ (a : List ℕ). not (b a)) (λ (a : List ℕ). apart a r) (λ a y. sym (Bool·not-not (apart a r)) ∙ y) (openOf h)
+    (none-each b (openOf h) (none-after b (keep (aboveStamp (s .durable .marks)) (rowsOf g done)) (openOf h) all))
 
 -- update by an owner that is live, with arguments in range, where nobody else holds a byte and a row is free
-module _ {g : Ground} {done : List (List ℕ)} {h : Past} {s : Lent} (x p offset w kind v : ℕ) (a : p < pagesOf s) (b : 1 ≤ x) (c : x ≤ 32) (d : isLength w ≡ true) (e : offset + w ≤ sizeOf s) (f : v < 256 ^ w) (i : kind ≤ 1) (j : h .live x ≡ true) (k : held (onlineOf s) x p offset w ≡ false) (l : countOf s < roomOf s) (t : Right g done h s) where
+module _ {g : Ground} {done : List (List ℕ)} {h : Past} {s : Lent} (x p offset w kind v : ℕ) (a : p < pagesOf s) (b : 1 ≤ x) (c : x ≤ 32) (d : isLength w ≡ true) (e : offset + w ≤ sizeOf s) (f : v < 256 ^ w) (i : kind ≤ 1) (j : h .live x ≡ true) (k : heldToUpdate (onlineOf s) (rowOf p offset w kind v x) ≡ false) (l : countOf s < onlineSizeOf s) (t : Right g done h s) where
   abbrev row : List ℕ
   row = rowOf p offset w kind v x
 
@@ -309,4 +293,4 @@ module _ {g : Ground} {done : List (List ℕ)} {h : Past} {s : Lent} (x p offset
   pub keeps-update : Right g done (updates h (rowOf p offset w kind v x)) (updated s (rowOf p offset w kind v x) .lent)
   keeps-update =
       update-right row (rw its-page a) (length-rowOf p offset w kind v x) (rw its-owner (ne-eqb x 0 (λ z. omega arith))) row-open
-      (apart-open x p offset w row its-page its-offset its-length its-owner k t) l t
+      (apart-open row k t) l t

@@ -6,29 +6,24 @@ use mathlib.Core.Path.{_≡_, refl, sym, ap, _∙_}
 use mathlib.Core.Bool.{Bool, true, false, not, _&&_, _||_, and-true, and-false}
 use mathlib.Core.List.{List, [], _∷_, _++_, append-nil}
 use lib.ListN.{length}
-use lib.Dec.{eqb, leb, ltb}
-use borrow.Author.Tests.{leb-true, ltb-true, ltb-false, le-ltb, eqb-true, eqb-false, eq-eqb, ne-eqb}
+use lib.Dec.{leb, ltb}
+use borrow.Author.Tests.{leb-true, ltb-true, ltb-false, le-ltb, eqb-true, eqb-false}
 use Rattle.word.specs.Word.{num}
 use Rattle.word.proofs.Tests.{and-both}
 use Rattle.record.specs.Rows.{keep, consIf, any}
-use Rattle.record.specs.Record.{pageOf, numberOf, committed, applied, onPage, committedOn, gone, greatest}
+use Rattle.record.specs.Record.{pageOf, numberOf, committed, applied, onPage, committedOn, greatest}
 use Rattle.rules.specs.Lent.{stampAt}
 use Rattle.rules.specs.Sound.{every, pairs}
-use Rattle.rules.proofs.Every.{keep-within, every-keep, every-kept-where}
+use Rattle.rules.proofs.Every.{every-keep, every-kept-where, every-imp}
 use Rattle.rules.proofs.Extremes.{numberAtMost, greatest-all, greatest-most}
 use Rattle.rules.proofs.Needed.{open-stays}
-use Rattle.onlinecheck.proofs.Rows.{every-imp}
 use Rattle.redo.proofs.Order.{≈-picked}
 use Rattle.redo.proofs.Loose.{_≅_, then, ≅-equal, ≅-keep, ≅-free, ≅-every}
 use Rattle.redo.proofs.View.{keep-append}
 use Rattle.redo.proofs.Views.{rising, keep-keep, keep-same-where, keep-both, keep-all, keep-none, stored-then-online}
-use Rattle.seats.proofs.Loops.{any-kept}
+use Rattle.keeps.proofs.Tests.{picked-every}
+use Rattle.keeps.proofs.Compacts.{stays, stays-count}
 use Rattle.history.proofs.Right.{uncommitted, aboveStamp}
-use Rattle.history.proofs.Tested.{picked-every}
-
--- a page's committed records are gone, the others stay
-abbrev pub stays : ℕ → List ℕ → Bool
-stays p r = not (gone false 0 p r)
 
 -- where there is a row, numbered above a and at most b, a is at most b
 some-between : (a b : ℕ) (l : List (List ℕ)) → 1 ≤ length l → every (λ (r : List ℕ). ltb a (numberOf r)) l ≡ true → every (λ (r : List ℕ). leb (numberOf r) b) l ≡ true → a ≤ b
@@ -36,29 +31,6 @@ unfolding every
 some-between a b [] n h k = absurd (omega arith)
 some-between a b (r ∷ l) n h k =
     omega (arith, ltb-true a (numberOf r) (and-both (ltb a (numberOf r)) (every (λ (x : List ℕ). ltb a (numberOf x)) l) h .0), leb-true (numberOf r) b (and-both (leb (numberOf r) b) (every (λ (x : List ℕ). leb (numberOf x) b) l) k .0))
-
--- a page's records are its committed ones and those that stay
-stays-count : (p : ℕ) (l : List (List ℕ)) → length (keep (committedOn p) l) + length (keep (onPage p) (keep (stays p) l)) ≡ length (keep (onPage p) l)
-unfolding keep
-stays-count p [] = refl
-stays-count p (r ∷ l) = pick (onPage p r) (committed r) refl (stays-count p l)
-  where
-    pick : (s t : Bool) → onPage p r ≡ s → length (keep (committedOn p) l) + length (keep (onPage p) (keep (stays p) l)) ≡ length (keep (onPage p) l)
-        → length (consIf (s && t) r (keep (committedOn p) l)) + length (keep (onPage p) (consIf (not (s && t)) r (keep (stays p) l))) ≡ length (consIf s r (keep (onPage p) l))
-    pick true true e h = omega arith
-    pick true false e h = rw e (omega arith)
-    pick false t e h = rw e h
-
--- where all of a page's records are committed none of the page stays; and where not, one does
-pub stays-page : (p : ℕ) (l : List (List ℕ)) → any (onPage p) (keep (stays p) l) ≡ not (eqb (length (keep (committedOn p) l)) (length (keep (onPage p) l)))
-stays-page p l = any-kept (onPage p) (keep (stays p) l) ∙ ap not (go (eqb (length (keep (committedOn p) l)) (length (keep (onPage p) l))) refl)
-  where
-    left : ℕ
-    left = length (keep (onPage p) (keep (stays p) l))
-
-    go : (t : Bool) → eqb (length (keep (committedOn p) l)) (length (keep (onPage p) l)) ≡ t → eqb left 0 ≡ t
-    go true e = eq-eqb left 0 (omega (arith, eqb-true (length (keep (committedOn p) l)) (length (keep (onPage p) l)) e, stays-count p l))
-    go false e = ne-eqb left 0 (λ z. eqb-false (length (keep (committedOn p) l)) (length (keep (onPage p) l)) e (omega (arith, stays-count p l)))
 
 nothing : {A : Type 0} (l : List A) → length l ≡ 0 → l ≡ []
 nothing [] h = refl
@@ -79,15 +51,6 @@ folds-all p (r ∷ l) h = pick (onPage p r) (committed r) h (folds-all p l)
     pick true true e f = ap (λ (k : List (List ℕ)). r ∷ k) (f (omega arith))
     pick true false e f = absurd (omega (arith, stays-count p l))
     pick false t e f = f e
-
--- the records of another page all stay
-pub stays-other : (p q : ℕ) → (q ≡ p → ⊥) → (l : List (List ℕ)) → keep (onPage q) (keep (stays p) l) ≡ keep (onPage q) l
-stays-other p q d l = keep-within (onPage q) (stays p) in-place l
-  where
-    in-place : (r : List ℕ) → onPage q r ≡ true → stays p r ≡ true
-    in-place r e =
-        let n : onPage p r ≡ false = ne-eqb (pageOf r) p (λ z. d (sym (eqb-true (pageOf r) q e) ∙ z)) in
-        rw n
 
 -- online is what no stored page holds, then what is not committed: `above` is the test for the first
 module _ (p : ℕ) (above : List ℕ → Bool) (rows opened online : List (List ℕ)) (hc : every committed rows ≡ true) (ho : every uncommitted opened ≡ true) (is : online ≅ keep above rows ++ opened) where

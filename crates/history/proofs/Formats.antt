@@ -11,13 +11,14 @@ use lib.Dec.{eqb}
 use Rattle.record.specs.Rows.{keep, any}
 use Rattle.record.specs.Record.{applied}
 use Rattle.order.proofs.Laws.{blank-at}
+use Rattle.rules.specs.declared.Params.{Params}
 use Rattle.rules.specs.Lent.{Lent, framesOf, lastOf, closedOf, loggedOf, inFrame, isDirty}
 use Rattle.rules.specs.Sound.{every, inRange, exactLengths}
 use Rattle.rules.specs.Steps.{formatted}
-use Rattle.durable.proofs.Laws.{lengths-each}
+use Rattle.rules.proofs.Ranges.{lengths-each}
 use Rattle.redo.proofs.Loose.{still, numberedFrom}
 use Rattle.seats.proofs.Places.{seated-none}
-use Rattle.readback.proofs.Marks.{fixed-format, size-format, pages-format, frames-format, room-format, span-format, range-format, marks-format, last-format, closed-format, logged-format, stamp-format, dirty-format}
+use Rattle.readback.proofs.Marks.{fixed-format, size-format, pages-format, frames-format, online-size-format, log-size-format, range-format, marks-format, last-format, closed-format, logged-format, stamp-format, dirty-format}
 use Rattle.readback.proofs.Log.{log-format, log-zero-format, log-length-format}
 use Rattle.readback.proofs.Lost.{reads-formatted}
 use Rattle.history.specs.Past.{fresh}
@@ -26,17 +27,17 @@ use Rattle.history.proofs.Settle.{settle}
 use Rattle.history.proofs.Pasts.{past-fresh}
 
 -- the lengths that format asks of the lent areas
-record Lengths (s : Lent) (size pages frames room span : ℕ) : Type 0 where
-  marks : length (s .durable .marks) ≡ 12 + 8 * pages
-  log : length (s .durable .log) ≡ 14 * span
-  stored : length (s .durable .stored) ≡ size * pages
-  tables : length (s .lost .tables) ≡ 35 + frames + pages
-  online : length (s .lost .online) ≡ 19 * room
-  pool : length (s .lost .pool) ≡ size * frames
+record Lengths (s : Lent) (g : Params) : Type 0 where
+  marks : length (s .durable .marks) ≡ 12 + 8 * g .pages
+  log : length (s .durable .log) ≡ 14 * g .log
+  stored : length (s .durable .stored) ≡ g .size * g .pages
+  tables : length (s .lost .tables) ≡ 35 + g .frames + g .pages
+  online : length (s .lost .online) ≡ 19 * g .online
+  pool : length (s .lost .pool) ≡ g .size * g .frames
 
-lengths-of : (s : Lent) (size pages frames room span : ℕ) → exactLengths s size pages frames room span ≡ true → Lengths s size pages frames room span
-lengths-of s size pages frames room span e =
-    let l = lengths-each s size pages frames room span e in
+lengths-of : (s : Lent) (g : Params) → exactLengths s g ≡ true → Lengths s g
+lengths-of s g e =
+    let l = lengths-each s g e in
     record { marks = l .0; log = l .1; stored = l .2; tables = l .3; online = l .4; pool = l .5 }
 
 -- zero bytes: no number is live, and every page is absent
@@ -55,40 +56,40 @@ lost-new size pages last frames start marks stored pool =
       frame = λ p below inside. absurd (false≢true (sym (ap (λ (e : ℕ). inFrame e) (blank-at {A = ℕ} pages p 0)) ∙ inside));
     }
 
-module _ (s : Lent) (size pages frames room span last : ℕ) (m : last ≤ 4294967295) (ranged : inRange size pages frames room span ≡ true) (exact : exactLengths s size pages frames room span ≡ true) where
+module _ (s : Lent) (g : Params) (last : ℕ) (m : last ≤ 4294967295) (ranged : inRange g ≡ true) (exact : exactLengths s g ≡ true) where
   abbrev ground : Ground
-  ground = record { size = size; pages = pages; start = s .durable .stored; base = last }
+  ground = record { size = g .size; pages = g .pages; start = s .durable .stored; base = last }
 
   abbrev new : Lent
-  new = formatted s size pages frames room span last .lent
+  new = formatted s g last .lent
 
-  long : Lengths s size pages frames room span
-  long = lengths-of s size pages frames room span exact
+  long : Lengths s g
+  long = lengths-of s g exact
 
   -- every stamp is L, no dirty number is there, and the log is empty
   durable-new : DurableRight ground [] (new .durable)
   unfolding formatted every keep applied numberedFrom
   durable-new =
-      let l : lastOf new ≡ last = last-format s size pages frames room span last ranged (long .marks) m in
-      let k : closedOf new ≡ last = closed-format s size pages frames room span last ranged (long .marks) m in
-      let n : loggedOf new ≡ 0 = logged-format s size pages frames room span last ranged (long .marks) m in
+      let l : lastOf new ≡ last = last-format s g last ranged (long .marks) m in
+      let k : closedOf new ≡ last = closed-format s g last ranged (long .marks) m in
+      let n : loggedOf new ≡ 0 = logged-format s g last ranged (long .marks) m in
       record {
-        fixed = fixed-format s size pages frames room span last ranged;
-        range = range-format s size pages frames room span last ranged;
-        size = size-format s size pages frames room span last ranged;
-        pages = pages-format s size pages frames room span last ranged;
-        marks = marks-format s size pages frames room span last ranged (long .marks) m ∙ long .marks;
-        log = log-length-format s size pages frames room span last ranged (long .marks) m ∙ long .log ∙ ap (λ (i : ℕ). 14 * i) (sym (span-format s size pages frames room span last ranged));
+        fixed = fixed-format s g last ranged;
+        range = range-format s g last ranged;
+        size = size-format s g last ranged;
+        pages = pages-format s g last ranged;
+        marks = marks-format s g last ranged (long .marks) m ∙ long .marks;
+        log = log-length-format s g last ranged (long .marks) m ∙ long .log ∙ ap (λ (i : ℕ). 14 * i) (sym (log-size-format s g last ranged));
         stored = long .stored;
         last = omega (arith, l);
         bound = omega (arith, l, m);
         logged = omega (arith, n);
         logged-done = omega (arith, n);
-        log-read = log-format s size pages frames room span last ranged (long .marks) m ∙ sym (drop-of-length-le {A = List ℕ} [] {i = 0 - loggedOf new} (omega arith));
-        log-zero = log-zero-format s size pages frames room span last ranged (long .marks) m;
-        stamps = λ p below. omega (arith, l, stamp-format s size pages frames room span last ranged (long .marks) m p below);
+        log-read = log-format s g last ranged (long .marks) m ∙ sym (drop-of-length-le {A = List ℕ} [] {i = 0 - loggedOf new} (omega arith));
+        log-zero = log-zero-format s g last ranged (long .marks) m;
+        stamps = λ p below. omega (arith, l, stamp-format s g last ranged (long .marks) m p below);
         closed = omega (arith, l, k);
-        dirty = λ p below. inl (dirty-format s size pages frames room span last ranged (long .marks) m p);
+        dirty = λ p below. inl (dirty-format s g last ranged (long .marks) m p);
         first = omega (arith, l, k, n);
         needed = refl;
         entered = refl;
@@ -97,11 +98,11 @@ module _ (s : Lent) (size pages frames room span last : ℕ) (m : last ≤ 42949
       }
 
   -- format, its parameters in range and the lent lengths exact, leaves bytes that are right for a new history
-  pub format-right : Right (record { size = size; pages = pages; start = s .durable .stored; base = last }) [] (fresh size pages last (s .durable .stored)) (formatted s size pages frames room span last .lent)
+  pub format-right : Right (record { size = g .size; pages = g .pages; start = s .durable .stored; base = last }) [] (fresh g last (s .durable .stored)) (formatted s g last .lent)
   unfolding formatted fresh keep
   format-right =
       settle
-      (reads-formatted s size pages frames room span last (long .tables) (long .online) (long .pool) (size-format s size pages frames room span last ranged) (pages-format s size pages frames room span last ranged) (frames-format s size pages frames room span last ranged) (room-format s size pages frames room span last ranged))
-      (past-fresh size pages last (s .durable .stored) m)
+      (reads-formatted s g last (long .tables) (long .online) (long .pool) (size-format s g last ranged) (pages-format s g last ranged) (frames-format s g last ranged) (online-size-format s g last ranged))
+      (past-fresh g last (s .durable .stored) m)
       durable-new
-      (lost-new size pages last (framesOf new) (s .durable .stored) (new .durable .marks) (s .durable .stored) (s .lost .pool))
+      (lost-new (g .size) (g .pages) last (framesOf new) (s .durable .stored) (new .durable .marks) (s .durable .stored) (s .lost .pool))

@@ -10,19 +10,18 @@ use lib.Dec.{leb}
 use borrow.Author.Tests.{eqb-true, ne-eqb, lt-leb}
 use Rattle.record.specs.Rows.{keep, consIf}
 use Rattle.record.specs.Record.{ownerOf, numberOf, committed, applied, onPage, committedOn, ownedBy, numbered, numberRows}
-use Rattle.table.proofs.Laws.{Wide, none, one, wide-keep, wide-append, wide-number}
+use Rattle.record.proofs.Rows.{Wide, none, one, wide-keep, wide-append, wide-number}
 use Rattle.rules.specs.Sound.{every}
 use Rattle.rules.proofs.Extremes.{numberAtMost}
-use Rattle.rules.proofs.Every.{or-right, every-kept, keep-within}
-use Rattle.onlinecheck.proofs.Rows.{every-imp}
+use Rattle.rules.proofs.Every.{or-right, every-kept, keep-within, every-imp}
 use Rattle.redo.proofs.View.{keep-append}
 use Rattle.redo.proofs.Views.{keep-keep, keep-same, keep-same-where, keep-swap}
 use Rattle.redo.proofs.Loose.{≅-every, owned-open}
 use Rattle.redo.proofs.Numbered.{every-not-owned, keep-others-all, numbered-committed, numbered-number}
+use Rattle.keeps.proofs.Tests.{every-append}
 use Rattle.history.specs.Past.{Past, begins, updates, commits, aborts, falls, rises, startPage, shown}
 use Rattle.history.specs.Committed.{committedOf, numberedTo}
 use Rattle.history.proofs.Right.{Ground, PastRight, rowsOf, uncommitted, openOf}
-use Rattle.history.proofs.Tested.{every-append}
 use Rattle.history.proofs.Facts.{done-committed, done-last, open-unset, open-every}
 use Rattle.history.proofs.Pasts.{made-wide}
 

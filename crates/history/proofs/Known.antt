@@ -2,16 +2,15 @@
 -- So a call that asks the tables hears what the history says.
 use Prim.Native.Nat.{ℕ, _≤_}
 use mathlib.Core.Path.{_≡_, sym, ap, _∙_}
-use mathlib.Core.Bool.{true, not}
+use mathlib.Core.Bool.{Bool, true, not}
 use mathlib.Core.List.{List}
-use Rattle.record.specs.Rows.{keep}
+use Rattle.record.specs.Rows.{keep, any}
 use Rattle.record.specs.Record.{committed, ownedBy}
 use Rattle.rules.specs.Lent.{Lent, sizeOf, pagesOf, lastOf, onlineOf}
-use Rattle.rules.specs.Sound.{every}
-use Rattle.rules.specs.Calls.{isLive, clashes, held}
+use Rattle.rules.specs.Sound.{every, apart}
+use Rattle.rules.specs.Calls.{isLive, clashes, heldToRead, heldToUpdate}
 use Rattle.rules.proofs.Extremes.{numberAtMost}
-use Rattle.rules.proofs.Every.{every-keep}
-use Rattle.onlinecheck.proofs.Rows.{every-imp}
+use Rattle.rules.proofs.Every.{every-keep, every-imp}
 use Rattle.redo.proofs.Loose.{≅-any, ≅-owned}
 use Rattle.redo.proofs.Numbered.{every-not-owned}
 use Rattle.history.specs.Past.{Past}
@@ -24,6 +23,10 @@ use Rattle.history.proofs.Soundly.{live-byte}
 clashes-open : (x p offset w : ℕ) (r : List ℕ) → committed r ≡ true → not (clashes x p offset w r) ≡ true
 unfolding clashes
 clashes-open x p offset w r e = rw e
+
+apart-committed : (r a : List ℕ) → committed a ≡ true → not (not (apart a r)) ≡ true
+unfolding apart
+apart-committed r a e = rw e
 
 module _ (g : Ground) (done : List (List ℕ)) (h : Past) (s : Lent) (c : Right g done h s) where
   pub size-read : sizeOf s ≡ h .size
@@ -46,15 +49,20 @@ module _ (g : Ground) (done : List (List ℕ)) (h : Past) (s : Lent) (c : Right 
   kept-committed : every committed (keep (aboveStamp (s .durable .marks)) (rowsOf g done)) ≡ true
   kept-committed = every-keep (aboveStamp (s .durable .marks)) committed (rowsOf g done) (done-committed (c .past))
 
-  no-clash : (x p offset w : ℕ) (l : List (List ℕ)) → every committed l ≡ true → every (λ (r : List ℕ). not (clashes x p offset w r)) l ≡ true
-  no-clash x p offset w l e = every-imp committed (λ (r : List ℕ). not (clashes x p offset w r)) (clashes-open x p offset w) l e
+  -- where no committed record passes a test, one online does exactly if one made does
+  open-read : (b : List ℕ → Bool) → ((r : List ℕ) → committed r ≡ true → not (b r) ≡ true) → any b (onlineOf s) ≡ any b (h .made)
+  open-read b f =
+      let none : (l : List (List ℕ)) → every committed l ≡ true → every (λ (r : List ℕ). not (b r)) l ≡ true = λ l e. every-imp committed (λ (r : List ℕ). not (b r)) f l e in
+      ≅-any b (c .lost .online-is)
+      ∙ any-behind b (keep (aboveStamp (s .durable .marks)) (rowsOf g done)) (openOf h) (none (keep (aboveStamp (s .durable .marks)) (rowsOf g done)) kept-committed)
+      ∙ sym (any-behind b (rowsOf g done) (openOf h) (none (rowsOf g done) (done-committed (c .past))))
+      ∙ sym (≅-any b (c .past .made))
 
-  pub held-read : (x p offset w : ℕ) → held (onlineOf s) x p offset w ≡ held (h .made) x p offset w
-  held-read x p offset w =
-      ≅-any (clashes x p offset w) (c .lost .online-is)
-      ∙ any-behind (clashes x p offset w) (keep (aboveStamp (s .durable .marks)) (rowsOf g done)) (openOf h) (no-clash x p offset w (keep (aboveStamp (s .durable .marks)) (rowsOf g done)) kept-committed)
-      ∙ sym (any-behind (clashes x p offset w) (rowsOf g done) (openOf h) (no-clash x p offset w (rowsOf g done) (done-committed (c .past))))
-      ∙ sym (≅-any (clashes x p offset w) (c .past .made))
+  pub read-held : (x p offset w : ℕ) → heldToRead (onlineOf s) x p offset w ≡ heldToRead (h .made) x p offset w
+  read-held x p offset w = open-read (clashes x p offset w) (clashes-open x p offset w)
+
+  pub update-held : (r : List ℕ) → heldToUpdate (onlineOf s) r ≡ heldToUpdate (h .made) r
+  update-held r = open-read (λ (a : List ℕ). not (apart a r)) (apart-committed r)
 
   -- an owner's records stand in the tables in the order made
   pub owned-read : (x : ℕ) → 1 ≤ x → keep (ownedBy x) (onlineOf s) ≡ keep (ownedBy x) (h .made)

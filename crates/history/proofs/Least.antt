@@ -3,24 +3,25 @@
 use Prim.Native.Nat.{ℕ, _≤_}
 use native.Mathlib.Omega.{arith}
 use mathlib.Core.Path.{_≡_, refl, sym, _∙_}
-use mathlib.Core.Logic.{_⊎_, inl, inr}
+use mathlib.Core.Logic.{_⊎_}
 use mathlib.Core.Bool.{Bool, true, false, not, _||_}
 use mathlib.Core.List.{List, [], _∷_, _++_}
 use lib.ListN.{length}
 use lib.Dec.{eqb, leb}
-use borrow.Author.Tests.{eqb-true, eqb-false, eq-eqb, leb-true, le-leb, not-true}
+use borrow.Author.Tests.{eqb-false, eq-eqb, leb-true, le-leb, not-true}
 use Rattle.word.proofs.Tests.{and-both, and-in}
 use Rattle.record.specs.Rows.{keep, any}
 use Rattle.record.specs.Record.{pageOf, numberOf, committed, committedOn, smallest}
 use Rattle.rules.specs.Sound.{every, between}
-use Rattle.rules.proofs.Extremes.{hasNumber, smallest-found, smallest-nothing, smallest-some}
-use Rattle.rules.proofs.Every.{or-left, or-right, meet, every-keep}
-use Rattle.onlinecheck.proofs.Rows.{every-imp}
+use Rattle.rules.proofs.Extremes.{hasNumber, smallest-some}
+use Rattle.rules.proofs.Every.{or-left, or-right, every-keep, every-imp}
 use Rattle.redo.proofs.Loose.{_≅_, ≅-any, ≅-every}
 use Rattle.redo.proofs.Reader.{every-both}
 use Rattle.seats.proofs.Loops.{any-kept}
+use Rattle.keeps.proofs.Tests.{picked-every}
+use Rattle.keeps.proofs.Closes.{least-between}
 use Rattle.history.proofs.Right.{uncommitted}
-use Rattle.history.proofs.Tested.{every-front, every-picked, picked-every, online-all}
+use Rattle.history.proofs.Tested.{every-front, every-picked, online-all}
 
 any-front : (c : List ℕ → Bool) (l m : List (List ℕ)) → any c l ≡ true → any c (l ++ m) ≡ true
 unfolding any
@@ -46,21 +47,6 @@ each-found c d f (r ∷ l) m g h =
 between-numbered : (first last : ℕ) → 1 ≤ first → (l : List (List ℕ)) → every (λ (r : List ℕ). between first (numberOf r) last) l ≡ true → every hasNumber l ≡ true
 between-numbered first last low l h =
     every-imp (λ (r : List ℕ). between first (numberOf r) last) hasNumber (λ r e. le-leb 1 (numberOf r) (omega (arith, leb-true first (numberOf r) (and-both (leb first (numberOf r)) (leb (numberOf r) last) e .0)))) l h
-
--- the smallest number of rows numbered from `first` to `last`
-least-between : (first last : ℕ) → 1 ≤ first → (l : List (List ℕ)) → every (λ (r : List ℕ). between first (numberOf r) last) l ≡ true
-    → (smallest 0 l ≡ 0) ⊎ ((first ≤ smallest 0 l) × (smallest 0 l ≤ last))
-least-between first last low [] h = inl smallest-nothing
-least-between first last low (r ∷ l) h =
-    inr (meet (λ (q : List ℕ). between first (numberOf q) last) (λ (q : List ℕ). eqb (numberOf q) (smallest 0 (r ∷ l))) (r ∷ l) h (smallest-found (r ∷ l) (between-numbered first last low (r ∷ l) h) (omega arith)) tell)
-  where
-    tell : (q : List ℕ) → between first (numberOf q) last ≡ true → eqb (numberOf q) (smallest 0 (r ∷ l)) ≡ true → (first ≤ smallest 0 (r ∷ l)) × (smallest 0 (r ∷ l) ≤ last)
-    tell q e k =
-        let f : (leb first (numberOf q) ≡ true) × (leb (numberOf q) last ≡ true) = and-both (leb first (numberOf q)) (leb (numberOf q) last) e in
-        let n : numberOf q ≡ smallest 0 (r ∷ l) = eqb-true (numberOf q) (smallest 0 (r ∷ l)) k in
-        let a : first ≤ numberOf q = leb-true first (numberOf q) (f .0) in
-        let b : numberOf q ≤ last = leb-true (numberOf q) last (f .1) in
-        (omega arith, omega arith)
 
 -- one passes, so one is kept
 some-kept : (d : List ℕ → Bool) (l : List (List ℕ)) → any d l ≡ true → 1 ≤ length (keep d l)

@@ -6,48 +6,24 @@ use mathlib.Core.Path.{_≡_, refl, sym, ap, _∙_, subst}
 use mathlib.Core.Bool.{Bool, true, false, not, _&&_, _||_, or-true}
 use mathlib.Core.List.{List, [], _∷_, _++_, map, append-assoc}
 use lib.ListN.{length, length-append, length-map}
-use lib.Seq.{getD-take}
 use lib.Dec.{eqb}
 use Rattle.word.proofs.Tests.{and-both}
 use Rattle.record.specs.Rows.{keep, consIf}
 use Rattle.record.specs.Record.{ownerOf, numberOf, committed, ownedBy, bodyOf, wellFormed}
-use Rattle.table.proofs.Laws.{Wide, none, one, wide-keep, wide-append, wide-bodies}
+use Rattle.record.proofs.Rows.{Wide, none, one, wide-keep, wide-append, wide-bodies}
+use Rattle.rules.specs.declared.Params.{Params}
 use Rattle.rules.specs.Sound.{every, pairs, between, apart}
-use Rattle.rules.proofs.Every.{every-kept, keep-within, every-kept-where}
-use Rattle.onlinecheck.proofs.Rows.{every-imp}
-use Rattle.redo.proofs.View.{SameBody, keep-append}
+use Rattle.rules.proofs.Every.{every-kept, keep-within, every-kept-where, every-imp}
+use Rattle.redo.proofs.View.{keep-append}
 use Rattle.redo.proofs.Views.{keep-swap, keep-all}
 use Rattle.redo.proofs.Loose.{_≅_, still, then, numberedFrom, ≅-sym, ≅-equal, ≅-before, ≅-keep, ≅-wide, ≅-number, owned-open}
-use Rattle.redo.proofs.Numbered.{body-formed, keep-open-none, keep-others-all, numberedFrom-append, numberedFrom-wide}
+use Rattle.redo.proofs.Numbered.{keep-open-none, keep-others-all, numberedFrom-append, numberedFrom-wide}
 use Rattle.redo.proofs.Commits.{commit-loose, commit-open}
+use Rattle.keeps.proofs.Tests.{every-append, every-one, pairs-last, pairs-keep}
+use Rattle.keeps.proofs.Numbering.{bodies-formed}
 use Rattle.history.specs.Past.{Past, fresh, begins, updates, commits, aborts, falls, rises}
 use Rattle.history.proofs.Right.{Ground, PastRight, rowsOf, uncommitted, openOf, openRow}
-use Rattle.history.proofs.Tested.{every-append, pairs-keep}
 use Rattle.history.proofs.Facts.{open-facts, done-committed, open-unset}
-
--- tests of a list with one more
-every-one : (b : List ℕ → Bool) (r : List ℕ) → b r ≡ true → every b (r ∷ []) ≡ true
-unfolding every
-every-one b r h = rw h
-
-pairs-more : (b : List ℕ → List ℕ → Bool) (l : List (List ℕ)) (r : List ℕ) → pairs b l ≡ true → every (λ (a : List ℕ). b a r) l ≡ true → pairs b (l ++ (r ∷ [])) ≡ true
-unfolding every pairs
-pairs-more b [] r h k = refl
-pairs-more b (x ∷ l) r h k =
-    let e : (every (b x) l ≡ true) × (pairs b l ≡ true) = and-both (every (b x) l) (pairs b l) h in
-    let f : (b x r ≡ true) × (every (λ (a : List ℕ). b a r) l ≡ true) = and-both (b x r) (every (λ (a : List ℕ). b a r) l) k in
-    rw (every-append (b x) l (r ∷ []) (e .0) (every-one (b x) r (f .0))) (pairs-more b l r (e .1) (f .1))
-
--- the records of well-formed rows are well formed
-body-same : (r : List ℕ) → SameBody (bodyOf r) r
-body-same r i p q = getD-take 14 r i 0 q
-
-bodies-formed : (size pages : ℕ) (l : List (List ℕ)) → every (wellFormed size pages) l ≡ true → every (wellFormed size pages) (map bodyOf l) ≡ true
-unfolding every
-bodies-formed size pages [] h = refl
-bodies-formed size pages (r ∷ l) h =
-    let e : (wellFormed size pages r ≡ true) × (every (wellFormed size pages) l ≡ true) = and-both (wellFormed size pages r) (every (wellFormed size pages) l) h in
-    rw (body-formed size pages (bodyOf r) r (body-same r) ∙ e .0) (bodies-formed size pages l (e .1))
 
 -- an uncommitted update stays one while its owner is live
 open-live : (g : Ground) (live on : ℕ → Bool) (r : List ℕ) → (live (ownerOf r) ≡ true → on (ownerOf r) ≡ true) → openRow g live r ≡ true → openRow g on r ≡ true
@@ -128,7 +104,7 @@ past-update {g} {done} {h} p r w c o a =
     past-moved p (h .made ++ (r ∷ [])) (openOf h ++ (r ∷ [])) (h .live) (h .down) (open-update h r c)
     (then (≅-before (r ∷ []) (p .made)) (≅-equal (append-assoc (rowsOf g done) (openOf h) (r ∷ []))))
     (every-append (openRow g (h .live)) (openOf h) (r ∷ []) (p .open-rows) (every-one (openRow g (h .live)) r o))
-    (wide-append (p .open-wide) (one w none)) (pairs-more apart (openOf h) r (p .apart) a)
+    (wide-append (p .open-wide) (one w none)) (pairs-last apart (openOf h) r (p .apart) a)
 
 -- those that are not the owner's are of owners that stay live
 others-live : (g : Ground) (live : ℕ → Bool) (x : ℕ) (o : List (List ℕ)) → every (openRow g live) o ≡ true → every (openRow g (λ (y : ℕ). not (eqb y x) && live y)) (keep (λ (r : List ℕ). not (ownedBy x r)) o) ≡ true
@@ -217,9 +193,9 @@ unfolding rises
 past-rises p = past-bare p false
 
 -- format: nothing is committed yet, and nothing made
-pub past-fresh : (size pages last : ℕ) (start : List ℕ) → last ≤ 4294967295 → PastRight (record { size = size; pages = pages; start = start; base = last }) [] (fresh size pages last start)
+pub past-fresh : (g : Params) (last : ℕ) (start : List ℕ) → last ≤ 4294967295 → PastRight (record { size = g .size; pages = g .pages; start = start; base = last }) [] (fresh g last start)
 unfolding fresh keep every pairs numberedFrom
-past-fresh size pages last start b =
+past-fresh g last start b =
     record {
       size = refl;
       pages = refl;

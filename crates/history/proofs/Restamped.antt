@@ -14,9 +14,10 @@ use Rattle.rules.specs.Lent.{Durable, sizeOf, pagesOf, lastOf, closedOf, logged
 use Rattle.rules.specs.Sound.{every, zeros}
 use Rattle.redo.proofs.Views.{keep-same}
 use Rattle.redo.proofs.Reader.{every-both}
+use Rattle.readback.proofs.Seen.{only}
 use Rattle.readback.proofs.Marks.{restamped-length, restamped-front, restamped-same, restamped-other, restamped-dirty}
 use Rattle.readback.proofs.Pages.{pages-length, page-same, page-other}
-use Rattle.history.proofs.Right.{Ground, DurableRight, rowsOf, aboveStamp, only}
+use Rattle.history.proofs.Right.{Ground, DurableRight, rowsOf, aboveStamp}
 use Rattle.history.proofs.Facts.{dirt-same, marks-long}
 
 through : (a b c : Bool) → (not a || b) ≡ true → (not b || c) ≡ true → (not a || c) ≡ true

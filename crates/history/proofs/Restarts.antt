@@ -11,13 +11,12 @@ use borrow.Author.Tests.{ltb-true, ltb-false, lt-ltb, le-leb, lt-leb}
 use Rattle.word.proofs.Tests.{and-both}
 use Rattle.record.specs.Rows.{consIf, keep}
 use Rattle.record.specs.Record.{pageOf, numberOf, entered, committed}
-use Rattle.table.proofs.Laws.{Wide, none, one, wide-drop, wide-keep}
-use Rattle.rules.specs.Lent.{Lent, Lost, pagesOf, framesOf, roomOf, closedOf, loggedOf, stampOf, dirtyOf, firstOf}
+use Rattle.record.proofs.Rows.{Wide, none, one, wide-drop, wide-keep}
+use Rattle.rules.specs.Lent.{Lent, Lost, pagesOf, framesOf, onlineSizeOf, closedOf, loggedOf, stampOf, dirtyOf, firstOf}
 use Rattle.rules.specs.Steps.{enters, entering, enteringAll, restarted}
 use Rattle.rules.specs.Sound.{every}
-use Rattle.rules.proofs.Every.{keep-within, every-keep}
+use Rattle.rules.proofs.Every.{keep-within, every-keep, every-imp}
 use Rattle.rules.proofs.Needed.{enters-above}
-use Rattle.onlinecheck.proofs.Rows.{every-imp}
 use Rattle.redo.proofs.Loose.{numberedFrom, ≅-equal}
 use Rattle.redo.proofs.Numbered.{entered-page, entered-number, numberedFrom-wide}
 use Rattle.redo.proofs.Views.{keep-same-where}
@@ -108,7 +107,7 @@ entering-is g done s w d =
         go r false e h = refl
 
 -- what enters fits the online table
-pub restart-fits : {g : Ground} {done : List (List ℕ)} {h : Past} {s : Lent} → Down g done h s → length (enteringAll s) ≤ roomOf s
+pub restart-fits : {g : Ground} {done : List (List ℕ)} {h : Past} {s : Lent} → Down g done h s → length (enteringAll s) ≤ onlineSizeOf s
 restart-fits {g} {done} {h} {s} d = omega (arith, ap (λ (l : List (List ℕ)). length l) (entering-is g done s (d .past .done-wide) (d .durable)), d .durable .fits)
 
 -- with nobody live and no page in a frame, online is what no stored page holds
@@ -132,7 +131,7 @@ module _ (g : Ground) (done : List (List ℕ)) (live : ℕ → Bool) (frames pag
 pub keeps-restart : {g : Ground} {done : List (List ℕ)} {h : Past} {s : Lent} → Down g done h s → Right g done (rises h) (restarted s .lent)
 unfolding restarted rises
 keeps-restart {g} {done} {h} {s} d =
-    settle (reads-restarted s (d .areas) (ranges (d .durable) .room-most) (restart-fits d) wide below)
+    settle (reads-restarted s (d .areas) (ranges (d .durable) .online-most) (restart-fits d) wide below)
     (past-rises (d .past)) (d .durable)
     (subst (λ (o : List (List ℕ)). LostRight g done o (λ (x : ℕ). false) (framesOf s) marks (s .durable .stored) (s .lost .pool) [] (replicate 32 0) (evictedEntries (enteringAll s) (replicate (pagesOf s) 0)) (enteringAll s))
     (sym (open-rises h))

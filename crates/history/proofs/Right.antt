@@ -10,12 +10,12 @@ use lib.Dec.{eqb, leb, ltb}
 use Rattle.word.specs.Word.{num}
 use Rattle.record.specs.Rows.{keep, any}
 use Rattle.record.specs.Record.{pageOf, ownerOf, numberOf, committed, applied, onPage, wellFormed}
-use Rattle.table.proofs.Laws.{Wide}
-use Rattle.rules.specs.Lent.{Lent, Durable, sizeOf, pagesOf, framesOf, roomOf, spanOf, lastOf, closedOf, loggedOf, firstOf, stampAt, stampOf, dirtyOf, logOf, orderOf, entriesOf, onlineOf, inFrame, frameOf, isDirty, pageIn}
+use Rattle.record.proofs.Rows.{Wide}
+use Rattle.rules.specs.Lent.{Lent, paramsOf, Durable, sizeOf, pagesOf, framesOf, onlineSizeOf, logSizeOf, lastOf, closedOf, loggedOf, firstOf, stampAt, stampOf, dirtyOf, logOf, orderOf, entriesOf, onlineOf, inFrame, frameOf, isDirty, pageIn}
 use Rattle.rules.specs.Sound.{every, pairs, zeros, between, inRange, apart}
 use Rattle.redo.proofs.Loose.{_≅_, numberedFrom}
 use Rattle.seats.proofs.Seated.{Seated}
-use Rattle.readback.proofs.Seen.{Areas, Whole, livesOf}
+use Rattle.readback.proofs.Seen.{only, Areas, Whole, livesOf}
 use Rattle.history.specs.Past.{Past}
 
 -- what format fixed: page size, pages, starting pages, and the number before the first commit's
@@ -40,10 +40,6 @@ openOf h = keep uncommitted (h .made)
 abbrev pub aboveStamp : List ℕ → List ℕ → Bool
 aboveStamp marks r = ltb (num 4 marks (stampAt (pageOf r))) (numberOf r)
 
--- the durable part alone, as lent bytes
-abbrev pub only : Durable → Lent
-only d = record { durable = d; lost = record { tables = []; online = []; pool = [] } }
-
 -- an uncommitted update: whose it is, and that it is well formed
 unfoldable pub openRow : Ground → (ℕ → Bool) → List ℕ → Bool
 openRow g live r = wellFormed (g .size) (g .pages) r && between 1 (ownerOf r) 32 && eqb (numberOf r) 0 && live (ownerOf r)
@@ -66,15 +62,15 @@ pub record PastRight (g : Ground) (done : List (List ℕ)) (h : Past) : Type 0 w
 -- the durable part
 pub record DurableRight (g : Ground) (done : List (List ℕ)) (d : Durable) : Type 0 where
   pub fixed : length (d .fixed) ≡ 20
-  pub range : inRange (sizeOf (only d)) (pagesOf (only d)) (framesOf (only d)) (roomOf (only d)) (spanOf (only d)) ≡ true
+  pub range : inRange (paramsOf (only d)) ≡ true
   pub size : sizeOf (only d) ≡ g .size
   pub pages : pagesOf (only d) ≡ g .pages
   pub marks : length (d .marks) ≡ 12 + 8 * g .pages
-  pub log : length (d .log) ≡ 14 * spanOf (only d)
+  pub log : length (d .log) ≡ 14 * logSizeOf (only d)
   pub stored : length (d .stored) ≡ g .size * g .pages
   pub last : lastOf (only d) ≡ g .base + length done
   pub bound : lastOf (only d) ≤ 4294967295
-  pub logged : loggedOf (only d) ≤ spanOf (only d)
+  pub logged : loggedOf (only d) ≤ logSizeOf (only d)
   pub logged-done : loggedOf (only d) ≤ length done
   -- the log is the end of all that was committed
   pub log-read : logOf (only d) ≡ drop (length done - loggedOf (only d)) done
@@ -87,7 +83,7 @@ pub record DurableRight (g : Ground) (done : List (List ℕ)) (d : Durable) : Ty
   pub needed : every (λ (r : List ℕ). not (aboveStamp (d .marks) r) || leb (firstOf (only d)) (numberOf r)) (rowsOf g done) ≡ true
   pub entered : every (λ (r : List ℕ). not (aboveStamp (d .marks) r) || not (leb (numberOf r) (closedOf (only d)) && eqb (dirtyOf (only d) (pageOf r)) 0)) (rowsOf g done) ≡ true
   -- and the online table has room for it
-  pub fits : length (keep (aboveStamp (d .marks)) (rowsOf g done)) ≤ roomOf (only d)
+  pub fits : length (keep (aboveStamp (d .marks)) (rowsOf g done)) ≤ onlineSizeOf (only d)
   -- a stored page is the starting page with the committed updates up to its stamp
   pub page : (p : ℕ) → p < g .pages → pageIn (g .size) p (d .stored) ≡ applied (keep (λ (r : List ℕ). onPage p r && not (aboveStamp (d .marks) r)) (rowsOf g done)) (pageIn (g .size) p (g .start))
 

@@ -1,133 +1,80 @@
 -- Soundness follows from the invariant: each clause of "Sound tables", S1 to S20, read off what the history and the bytes keep between them.
 -- So no call after an honest use is refused as not sound.
-use Prim.Native.Nat.{ℕ, _+_, _*_, _-_, _≤_, _<_}
+use Prim.Native.Nat.{ℕ, _+_, _-_, _≤_, _<_}
 use native.Mathlib.Omega.{arith}
 use mathlib.Core.Path.{_≡_, refl, sym, ap, _∙_}
-use mathlib.Core.Logic.{_⊎_, inl, inr}
 use mathlib.Core.Bool.{Bool, true, false, not, _&&_, _||_}
 use mathlib.Core.List.{List, [], _∷_, _++_}
 use lib.ListN.{length, getD, drop}
 use lib.Seq.{getD-drop}
 use lib.Dec.{eqb, leb}
-use borrow.Author.Tests.{eq-eqb, eqb-true, eqb-false, le-leb, leb-true, ltb-true, not-true}
+use borrow.Author.Tests.{eq-eqb, eqb-true, le-leb, leb-true, ltb-true}
 use Rattle.word.proofs.Tests.{and-both, and-in}
 use Rattle.record.specs.Part.{part}
 use Rattle.record.specs.Rows.{rowAt, rows, keep, any}
-use Rattle.record.specs.Record.{ownerOf, numberOf, committed, bodyOf, onPage, entered, wellFormed, shareByte}
-use Rattle.rules.specs.Lent.{Lent, sizeOf, pagesOf, framesOf, roomOf, spanOf, lastOf, closedOf, loggedOf, stampOf, dirtyOf, firstOf, logOf, countOf, usedOf, liveOf, entriesOf, onlineOf, isDirty}
-use Rattle.rules.specs.Sound.{every, pairs, upTo, zeros, between, inRange, agree, apart, same, owning, exactLengths, s1-parameters, s2-lengths, s3-logged, s16-logged, s18-first, s15-stamps, s17-s19-dirty, s7-log-records, s14-log-zero, soundDurable, s3-counts, s20-live, s4-entries, s5-frame-once, s6-order, s14-order-zero, s7-online-records, s8-owners, s14-online-zero, s10-in-log, s11-above-stamp, s9-number-once, s12-dirty, s13-apart, soundLost, sound}
-use Rattle.rules.proofs.Every.{or-left, or-right, every-keep}
-use Rattle.onlinecheck.proofs.Rows.{every-imp}
-use Rattle.redo.proofs.Order.{free, free-sym, pairs-imp}
+use Rattle.record.specs.Record.{ownerOf, numberOf, committed, bodyOf, entered, wellFormed, free}
+use Rattle.rules.specs.Lent.{Lent, Durable, sizeOf, pagesOf, lastOf, loggedOf, firstOf, logOf, liveOf, onlineOf}
+use Rattle.rules.specs.Sound.{every, pairs, between, apart, same, soundDurable, sound}
+use Rattle.rules.proofs.Every.{or-left, or-right, every-keep, every-imp}
+use Rattle.redo.proofs.Order.{free-sym, pairs-imp}
 use Rattle.redo.proofs.Views.{rising}
 use Rattle.redo.proofs.Loose.{≅-sym, ≅-pairs-true}
 use Rattle.redo.proofs.Numbered.{entered-committed, entered-number, entered-bytes}
 use Rattle.redo.proofs.Reader.{every-both}
-use Rattle.seats.proofs.Places.{seated-s5, seated-s6}
-use Rattle.readback.proofs.Seen.{Areas}
+use Rattle.readback.proofs.Seen.{only, livesOf, Areas}
 use Rattle.readback.proofs.Lost.{live-whole}
+use Rattle.keeps.proofs.Tests.{every-drop, every-append, every-all, pairs-keep, differ, differ-by, differ-then, same-itself}
+use Rattle.keeps.proofs.Durables.{DurableHolds, holds-durable}
+use Rattle.keeps.proofs.Numbering.{rows-at}
+use Rattle.keeps.proofs.Clauses.{ownedRight, inLog, stampBelow, HoldsIn, sound-by}
 use Rattle.history.specs.Past.{Past}
 use Rattle.history.proofs.Right.{Ground, rowsOf, openOf, aboveStamp, DurableRight, Right}
-use Rattle.history.proofs.Tested.{upTo-all, every-drop, every-append, every-all, pairs-keep, same-itself, rows-at, every-numbered}
+use Rattle.history.proofs.Tested.{every-numbered}
 use Rattle.history.proofs.Facts.{done-formed, done-committed, done-rising, open-every, marks-long, stored-long, logged-last, online-every, online-each}
 
+-- what restart checks holds of the durable part, and of the lengths of the lost one
 module _ (g : Ground) (done : List (List ℕ)) (s : Lent) (d : DurableRight g done (s .durable)) where
-  has-parameters : s1-parameters s ≡ true
-  unfolding s1-parameters
-  has-parameters = and-in (eqb (length (s .durable .fixed)) 20) (inRange (sizeOf s) (pagesOf s) (framesOf s) (roomOf s) (spanOf s)) (eq-eqb (length (s .durable .fixed)) 20 (d .fixed)) (d .range)
-
-  has-lengths : Areas s → s2-lengths s ≡ true
-  unfolding s2-lengths exactLengths
-  has-lengths a =
-      rw (
-        eq-eqb (length (s .durable .marks)) (12 + 8 * pagesOf s) (marks-long d),
-        eq-eqb (length (s .durable .log)) (14 * spanOf s) (d .log),
-        eq-eqb (length (s .durable .stored)) (sizeOf s * pagesOf s) (stored-long d),
-        eq-eqb (length (s .lost .tables)) (35 + framesOf s + pagesOf s) (a .tables),
-        eq-eqb (length (s .lost .online)) (19 * roomOf s) (a .online),
-        eq-eqb (length (s .lost .pool)) (sizeOf s * framesOf s) (a .pool),
-      )
-
-  few-logged : s3-logged s ≡ true
-  unfolding s3-logged
-  few-logged = le-leb (loggedOf s) (spanOf s) (d .logged)
-
-  n-below : s16-logged s ≡ true
-  unfolding s16-logged
-  n-below = le-leb (loggedOf s) (lastOf s) (logged-last d)
-
-  first-below : s18-first s ≡ true
-  unfolding s18-first
-  first-below = le-leb (firstOf s) (closedOf s + 1) (d .first)
-
   page-within : (p : ℕ) → p < pagesOf s → p < g .pages
   page-within p h = omega (arith, d .pages)
 
-  stamps-below : s15-stamps s ≡ true
-  unfolding s15-stamps
-  stamps-below =
-      and-in (leb (closedOf s) (lastOf s)) (upTo (λ (p : ℕ). leb (stampOf s p) (lastOf s)) (pagesOf s) 0)
-      (le-leb (closedOf s) (lastOf s) (d .closed))
-      (upTo-all (λ (p : ℕ). leb (stampOf s p) (lastOf s)) (pagesOf s) (λ p h. le-leb (stampOf s p) (lastOf s) (d .stamps p (page-within p h))))
-
-  dirty-between : s17-s19-dirty s ≡ true
-  unfolding s17-s19-dirty
-  dirty-between = upTo-all (λ (p : ℕ). eqb (dirtyOf s p) 0 || between (firstOf s) (dirtyOf s p) (closedOf s)) (pagesOf s) (λ p h. pick p (d .dirty p (page-within p h)))
-    where
-      pick : (p : ℕ) → (dirtyOf s p ≡ 0) ⊎ ((firstOf s ≤ dirtyOf s p) × (dirtyOf s p ≤ closedOf s)) → (eqb (dirtyOf s p) 0 || between (firstOf s) (dirtyOf s p) (closedOf s)) ≡ true
-      pick p (inl e) = or-left (eqb (dirtyOf s p) 0) (between (firstOf s) (dirtyOf s p) (closedOf s)) (eq-eqb (dirtyOf s p) 0 e)
-      pick p (inr e) =
-          or-right (eqb (dirtyOf s p) 0) (between (firstOf s) (dirtyOf s p) (closedOf s))
-          (and-in (leb (firstOf s) (dirtyOf s p)) (leb (dirtyOf s p) (closedOf s)) (le-leb (firstOf s) (dirtyOf s p) (e .0)) (le-leb (dirtyOf s p) (closedOf s) (e .1)))
-
   -- "records are well formed" of what was committed is so of the log, its end
-  log-formed : every (wellFormed (g .size) (g .pages)) done ≡ true → s7-log-records s ≡ true
-  unfolding s7-log-records
+  log-formed : every (wellFormed (g .size) (g .pages)) done ≡ true → every (wellFormed (sizeOf s) (pagesOf s)) (logOf s) ≡ true
   log-formed h =
       ap (λ (n : ℕ). every (wellFormed n (pagesOf s)) (logOf s)) (d .size)
       ∙ ap (λ (n : ℕ). every (wellFormed (g .size) n) (logOf s)) (d .pages)
       ∙ ap (λ (l : List (List ℕ)). every (wellFormed (g .size) (g .pages)) l) (d .log-read)
       ∙ every-drop (wellFormed (g .size) (g .pages)) (length done - loggedOf s) done h
 
-  log-clear : s14-log-zero s ≡ true
-  unfolding s14-log-zero
-  log-clear = d .log-zero
+  right-durable : every (wellFormed (g .size) (g .pages)) done ≡ true → DurableHolds s
+  right-durable h =
+      record {
+        fixed = d .fixed;
+        range = d .range;
+        marks = marks-long d;
+        log = d .log;
+        stored = stored-long d;
+        logged = d .logged;
+        logged-last = logged-last d;
+        first = d .first;
+        closed-last = d .closed;
+        stamps = λ p k. d .stamps p (page-within p k);
+        dirty = λ p k. d .dirty p (page-within p k);
+        formed = log-formed h;
+        clear = d .log-zero;
+      }
 
--- what restart checks holds of the durable part, and of the lengths of the lost one
 pub durable-sound : (g : Ground) (done : List (List ℕ)) (s : Lent) → DurableRight g done (s .durable) → every (wellFormed (g .size) (g .pages)) done ≡ true → Areas s → soundDurable s ≡ true
-unfolding soundDurable
-durable-sound g done s d formed areas =
-    rw (has-parameters g done s d, has-lengths g done s d areas, few-logged g done s d, n-below g done s d, first-below g done s d, stamps-below g done s d, dirty-between g done s d, log-formed g done s d formed, log-clear g done s d)
+durable-sound g done s d formed areas = holds-durable s (right-durable g done s d formed) areas
 
 -- S8 of a committed record, and of an uncommitted one
-owning-committed : (s : Lent) (r : List ℕ) → committed r ≡ true → 1 ≤ numberOf r → numberOf r ≤ lastOf s → owning s r ≡ true
-unfolding owning
-owning-committed s r e low high =
-    rw e (and-in (leb 1 (numberOf r)) (leb (numberOf r) (lastOf s)) (le-leb 1 (numberOf r) low) (le-leb (numberOf r) (lastOf s) high))
+owned-committed : (d : Durable) (lives r : List ℕ) → committed r ≡ true → 1 ≤ numberOf r → numberOf r ≤ lastOf (only d) → ownedRight d lives r ≡ true
+owned-committed d lives r e low high =
+    rw e (and-in (leb 1 (numberOf r)) (leb (numberOf r) (lastOf (only d))) (le-leb 1 (numberOf r) low) (le-leb (numberOf r) (lastOf (only d)) high))
 
-owning-open : (s : Lent) (r : List ℕ) → committed r ≡ false → ownerOf r ≤ 32 → numberOf r ≡ 0 → eqb (liveOf s (ownerOf r)) 1 ≡ true → owning s r ≡ true
-unfolding owning
-owning-open s r e high n live =
-    rw e (and-in (leb (ownerOf r) 32 && eqb (numberOf r) 0) (eqb (liveOf s (ownerOf r)) 1) (and-in (leb (ownerOf r) 32) (eqb (numberOf r) 0) (le-leb (ownerOf r) 32 high) (eq-eqb (numberOf r) 0 n)) live)
+owned-open : (d : Durable) (lives r : List ℕ) → committed r ≡ false → ownerOf r ≤ 32 → numberOf r ≡ 0 → eqb (getD lives (ownerOf r - 1) 0) 1 ≡ true → ownedRight d lives r ≡ true
+owned-open d lives r e high n live = rw (e, le-leb (ownerOf r) 32 high, n) live
 
--- S9 of two records
-abbrev differ : List ℕ → List ℕ → Bool
-differ a b = eqb (numberOf a) 0 || not (eqb (numberOf a) (numberOf b))
-
-differ-by : (a b : List ℕ) → (numberOf a ≡ numberOf b → numberOf a ≡ 0) → differ a b ≡ true
-differ-by a b h = go (eqb (numberOf a) (numberOf b)) refl
-  where
-    go : (t : Bool) → eqb (numberOf a) (numberOf b) ≡ t → (eqb (numberOf a) 0 || not t) ≡ true
-    go true e = or-left (eqb (numberOf a) 0) false (eq-eqb (numberOf a) 0 (h (eqb-true (numberOf a) (numberOf b) e)))
-    go false e = or-right (eqb (numberOf a) 0) true refl
-
-differ-then : (a b : List ℕ) → differ a b ≡ true → numberOf a ≡ numberOf b → numberOf a ≡ 0
-differ-then a b h e = go (eqb (numberOf a) 0) refl h
-  where
-    go : (t : Bool) → eqb (numberOf a) 0 ≡ t → (t || not (eqb (numberOf a) (numberOf b))) ≡ true → numberOf a ≡ 0
-    go true k p = eqb-true (numberOf a) 0 k
-    go false k p = absurd (eqb-false (numberOf a) (numberOf b) (not-true (eqb (numberOf a) (numberOf b)) p) e)
-
+-- S9 of two records, either first
 differ-sym : (a b : List ℕ) → differ a b ≡ true → differ b a ≡ true
 differ-sym a b h = differ-by b a (λ e. e ∙ differ-then a b h (sym e))
 
@@ -148,15 +95,15 @@ differ-append (r ∷ l) m h k =
 
 -- S13: a committed record is apart from any other
 apart-sym : (a b : List ℕ) → apart a b ≡ true → apart b a ≡ true
-unfolding apart free
+unfolding apart
 apart-sym a b h = pick (committed a) (committed b) (eqb (ownerOf a) (ownerOf b)) refl h
   where
-    pick : (x y z : Bool) → eqb (ownerOf a) (ownerOf b) ≡ z → (x || y || z || not (shareByte a b)) ≡ true → (y || x || eqb (ownerOf b) (ownerOf a) || not (shareByte b a)) ≡ true
+    pick : (x y z : Bool) → eqb (ownerOf a) (ownerOf b) ≡ z → (x || y || z || free a b) ≡ true → (y || x || eqb (ownerOf b) (ownerOf a) || free b a) ≡ true
     pick true true z e p = refl
     pick true false z e p = refl
     pick false true z e p = refl
-    pick false false true e p = or-left (eqb (ownerOf b) (ownerOf a)) (not (shareByte b a)) (eq-eqb (ownerOf b) (ownerOf a) (sym (eqb-true (ownerOf a) (ownerOf b) e)))
-    pick false false false e p = or-right (eqb (ownerOf b) (ownerOf a)) (not (shareByte b a)) (free-sym a b p)
+    pick false false true e p = or-left (eqb (ownerOf b) (ownerOf a)) (free b a) (eq-eqb (ownerOf b) (ownerOf a) (sym (eqb-true (ownerOf a) (ownerOf b) e)))
+    pick false false false e p = or-right (eqb (ownerOf b) (ownerOf a)) (free b a) (free-sym a b p)
 
 apart-append : (l m : List (List ℕ)) → every committed l ≡ true → pairs apart m ≡ true → pairs apart (l ++ m) ≡ true
 unfolding pairs every apart
@@ -164,10 +111,6 @@ apart-append [] m h k = k
 apart-append (r ∷ l) m h k =
     let e = and-both (committed r) (every committed l) h in
     and-in (every (apart r) (l ++ m)) (pairs apart (l ++ m)) (every-all (apart r) (λ q. rw (e .0)) (l ++ m)) (apart-append l m (e .1) k)
-
-agree-same : (a b : Bool) → a ≡ b → agree a b ≡ true
-agree-same true b e = sym e
-agree-same false b e = ap not (sym e)
 
 -- where a record above its stamp is in the log's numbers, and one in the log's numbers is the log's record
 in-log : (above within it done : Bool) → (not above || within) ≡ true → (not within || it) ≡ true → (not above || (not done || (within && it))) ≡ true
@@ -187,39 +130,7 @@ module _ (g : Ground) (done : List (List ℕ)) (h : Past) (s : Lent) (x : Right 
   done-every : (c : List ℕ → Bool) → ((i : ℕ) → i < length done → length (getD done i []) ≡ 14 → c (entered (getD done i []) (g .base + 1 + i)) ≡ true) → every c (rowsOf g done) ≡ true
   done-every c f = every-numbered c (g .base + 1) done (x .past .done-wide) f
 
-  counts-within : s3-counts s ≡ true
-  unfolding s3-counts
-  counts-within =
-      and-in (leb (countOf s) (roomOf s)) (leb (usedOf s) (framesOf s))
-      (le-leb (countOf s) (roomOf s) (omega (arith, x .whole .count, x .whole .room)))
-      (le-leb (usedOf s) (framesOf s) (omega (arith, x .whole .used, x .whole .frames)))
-
-  live-marked : s20-live s ≡ true
-  unfolding s20-live
-  live-marked = x .lost .lives-bits
-
-  entries-right : s4-entries s ≡ true
-  unfolding s4-entries
-  entries-right = x .lost .seated .entries-within
-
-  frames-once : s5-frame-once s ≡ true
-  unfolding s5-frame-once
-  frames-once = seated-s5 (x .lost .seated)
-
-  order-right : s6-order s ≡ true
-  unfolding s6-order
-  order-right = seated-s6 (x .lost .seated)
-
-  order-clear : s14-order-zero s ≡ true
-  unfolding s14-order-zero
-  order-clear = ap (λ (n : ℕ). zeros (part (35 + n) (framesOf s - n) (s .lost .tables))) (x .whole .used) ∙ x .whole .order-zero
-
-  online-clear : s14-online-zero s ≡ true
-  unfolding s14-online-zero
-  online-clear = ap (λ (n : ℕ). zeros (drop (n * 19) (s .lost .online))) (x .whole .count) ∙ x .whole .online-zero
-
-  online-formed : s7-online-records s ≡ true
-  unfolding s7-online-records
+  online-formed : every (wellFormed (sizeOf s) (pagesOf s)) (onlineOf s) ≡ true
   online-formed =
       ap (λ (n : ℕ). every (wellFormed n (pagesOf s)) (onlineOf s)) (x .durable .size)
       ∙ ap (λ (n : ℕ). every (wellFormed (g .size) n) (onlineOf s)) (x .durable .pages)
@@ -232,14 +143,13 @@ module _ (g : Ground) (done : List (List ℕ)) (h : Past) (s : Lent) (x : Right 
   number-of : (i : ℕ) → i < length done → length (getD done i []) ≡ 14 → numberOf (entered (getD done i []) (g .base + 1 + i)) ≡ g .base + 1 + i
   number-of i p q = entered-number (getD done i []) (g .base + 1 + i) q (omega (arith, x .durable .last, x .durable .bound))
 
-  owners-right : s8-owners s ≡ true
-  unfolding s8-owners
+  owners-right : every (ownedRight (s .durable) (livesOf s)) (onlineOf s) ≡ true
   owners-right =
-      online-each x (owning s)
-      (done-every (owning s) (λ i p q.
+      online-each x (ownedRight (s .durable) (livesOf s))
+      (done-every (ownedRight (s .durable) (livesOf s)) (λ i p q.
       let n : numberOf (entered (getD done i []) (g .base + 1 + i)) ≡ g .base + 1 + i = number-of i p q in
-      owning-committed s (entered (getD done i []) (g .base + 1 + i)) (entered-committed (getD done i []) (g .base + 1 + i) q) (omega (arith, n)) (omega (arith, n, x .durable .last))))
-      (open-every (x .past) (owning s) (λ r f. owning-open s r (f .owned) (f .high) (f .number) (live-byte (ownerOf r) (f .low) (f .high) ∙ f .alive)))
+      owned-committed (s .durable) (livesOf s) (entered (getD done i []) (g .base + 1 + i)) (entered-committed (getD done i []) (g .base + 1 + i) q) (omega (arith, n)) (omega (arith, n, x .durable .last))))
+      (open-every (x .past) (ownedRight (s .durable) (livesOf s)) (λ r f. owned-open (s .durable) (livesOf s) r (f .owned) (f .high) (f .number) (x .lost .alive (ownerOf r) (f .low) (f .high) ∙ f .alive)))
 
   -- each committed record within the log's numbers is the log's record of its number
   abbrev is-logged : List ℕ → Bool
@@ -260,18 +170,16 @@ module _ (g : Ground) (done : List (List ℕ)) (h : Past) (s : Lent) (x : Right 
           ∙ ap (λ (b : List ℕ). same (getD done i []) b) (log-at (length done) (loggedOf s) i (numberOf r - firstOf s) (s .durable .log) done (x .durable .log-read) low at)
           ∙ same-itself (getD done i [])
 
-  online-logged : s10-in-log s ≡ true
-  unfolding s10-in-log
+  online-logged : every (inLog (s .durable)) (onlineOf s) ≡ true
   online-logged =
-      online-every x (λ (r : List ℕ). not (committed r) || (leb (firstOf s) (numberOf r) && is-logged r))
+      online-every x (inLog (s .durable))
       (every-both (λ (r : List ℕ). not (aboveStamp (s .durable .marks) r) || leb (firstOf s) (numberOf r)) (λ (r : List ℕ). not (leb (firstOf s) (numberOf r)) || is-logged r)
       (λ (r : List ℕ). not (aboveStamp (s .durable .marks) r) || (not (committed r) || (leb (firstOf s) (numberOf r) && is-logged r)))
       (λ r p q. in-log (aboveStamp (s .durable .marks) r) (leb (firstOf s) (numberOf r)) (is-logged r) (committed r) p q)
       (rowsOf g done) (x .durable .needed) done-logged)
-      (open-every (x .past) (λ (r : List ℕ). not (committed r) || (leb (firstOf s) (numberOf r) && is-logged r)) (λ r f. or-left (not (committed r)) (leb (firstOf s) (numberOf r) && is-logged r) (ap not (f .owned))))
+      (open-every (x .past) (inLog (s .durable)) (λ r f. or-left (not (committed r)) (leb (firstOf s) (numberOf r) && is-logged r) (ap not (f .owned))))
 
-  online-above : s11-above-stamp s ≡ true
-  unfolding s11-above-stamp
+  online-above : every (stampBelow (s .durable)) (onlineOf s) ≡ true
   online-above =
       online-every x (λ (r : List ℕ). not (committed r) || aboveStamp (s .durable .marks) r)
       (every-all (λ (r : List ℕ). not (aboveStamp (s .durable .marks) r) || (not (committed r) || aboveStamp (s .durable .marks) r)) (λ r. pick (aboveStamp (s .durable .marks) r) (committed r)) (rowsOf g done))
@@ -282,44 +190,32 @@ module _ (g : Ground) (done : List (List ℕ)) (h : Past) (s : Lent) (x : Right 
       pick true false = refl
       pick false c = refl
 
-  number-once : s9-number-once s ≡ true
-  unfolding s9-number-once
+  number-once : pairs differ (onlineOf s) ≡ true
   number-once =
       ≅-pairs-true differ differ-sym (≅-sym (x .lost .online-is))
       (differ-append (keep (aboveStamp (s .durable .marks)) (rowsOf g done)) (openOf h)
       (pairs-keep (aboveStamp (s .durable .marks)) differ (rowsOf g done) (pairs-imp rising differ (λ a b e. differ-by a b (λ n. absurd (omega (arith, ltb-true (numberOf a) (numberOf b) e)))) (rowsOf g done) (done-rising (x .past))))
       (open-every (x .past) (λ (r : List ℕ). eqb (numberOf r) 0) (λ r f. eq-eqb (numberOf r) 0 (f .number))))
 
-  dirty-right : s12-dirty s ≡ true
-  unfolding s12-dirty
-  dirty-right =
-      upTo-all (λ (p : ℕ). agree (isDirty (getD (entriesOf s) p 0)) (any (onPage p) (onlineOf s))) (pagesOf s)
-      (λ p k. agree-same (isDirty (getD (entriesOf s) p 0)) (any (onPage p) (onlineOf s)) (x .lost .dirty p (page-within g done s (x .durable) p k)))
-
-  online-apart : s13-apart s ≡ true
-  unfolding s13-apart
+  online-apart : pairs apart (onlineOf s) ≡ true
   online-apart =
       ≅-pairs-true apart apart-sym (≅-sym (x .lost .online-is))
       (apart-append (keep (aboveStamp (s .durable .marks)) (rowsOf g done)) (openOf h) (every-keep (aboveStamp (s .durable .marks)) committed (rowsOf g done) (done-committed (x .past))) (x .past .apart))
 
+  right-holds : HoldsIn s
+  right-holds =
+      record {
+        seated = x .lost .seated;
+        live = x .lost .lives-bits;
+        formed = online-formed;
+        owners = owners-right;
+        logged = online-logged;
+        above = online-above;
+        once = number-once;
+        dirty = λ p k. x .lost .dirty p (page-within g done s (x .durable) p k);
+        apart-all = online-apart;
+      }
+
 -- what every call but format and restart checks
 pub right-sound : (g : Ground) (done : List (List ℕ)) (h : Past) (s : Lent) → Right g done h s → sound s ≡ true
-unfolding sound soundLost
-right-sound g done h s x =
-    and-in (soundDurable s) (soundLost s) (durable-sound g done s (x .durable) (x .past .formed) (x .whole .areas))
-    (rw (
-      counts-within g done h s x,
-      live-marked g done h s x,
-      entries-right g done h s x,
-      frames-once g done h s x,
-      order-right g done h s x,
-      order-clear g done h s x,
-      online-formed g done h s x,
-      owners-right g done h s x,
-      online-clear g done h s x,
-      online-logged g done h s x,
-      online-above g done h s x,
-      number-once g done h s x,
-      dirty-right g done h s x,
-      online-apart g done h s x,
-    ))
+right-sound g done h s x = sound-by (durable-sound g done s (x .durable) (x .past .formed) (x .whole .areas)) (x .whole) (right-holds g done h s x)

@@ -1,53 +1,29 @@
 -- Tests of every row, of each two, of one at least: of rows appended, of rows kept, and of committed rows as the log's records make them.
 -- Soundness is such tests, and the invariant names its rows as appended, kept and numbered ones.
-use Prim.Native.Nat.{ℕ, zero, suc, _+_, _<_}
+use Prim.Native.Nat.{ℕ, suc, _+_, _<_}
 use native.Mathlib.Omega.{arith}
 use mathlib.Core.Path.{_≡_, refl, ap, _∙_}
-use mathlib.Core.Bool.{Bool, true, false, not, _&&_, _||_}
+use mathlib.Core.Bool.{Bool, true, false, not, _||_}
 use mathlib.Core.List.{List, [], _∷_, _++_}
-use lib.ListN.{length, getD, drop}
-use lib.Dec.{eqb}
-use borrow.Author.Tests.{eq-eqb}
+use lib.ListN.{length, getD}
 use Rattle.word.proofs.Tests.{and-both, and-in}
-use Rattle.record.specs.Rows.{rowAt, rows, keep, consIf, any}
+use Rattle.record.specs.Rows.{rows, keep, any}
 use Rattle.record.specs.Record.{entered}
-use Rattle.rules.proofs.Every.{every-kept-where, every-keep}
-use Rattle.table.proofs.Laws.{Wide, none, one}
-use Rattle.rules.specs.Sound.{every, pairs, upTo, same}
+use Rattle.rules.proofs.Every.{every-kept-where}
+use Rattle.record.proofs.Rows.{Wide, none, one}
+use Rattle.rules.specs.Sound.{every}
 use Rattle.redo.proofs.View.{keep-append}
 use Rattle.redo.proofs.Views.{keep-none}
 use Rattle.redo.proofs.Loose.{_≅_, numberedFrom, ≅-every}
 use Rattle.seats.proofs.Loops.{any-by}
-use Rattle.seats.proofs.Counting.{upTo-all as upTo-from}
+use Rattle.keeps.proofs.Tests.{every-append}
 
 -- what follows from a test that holds
 or-of : (a b : Bool) → a ≡ true → (not a || b) ≡ true → b ≡ true
 or-of true b h k = k
 or-of false b h k = let z : _≡_ {A = ℕ} 0 1 = cc in absurd (omega arith)
 
--- each of n numbers passes a test
-pub upTo-all : (b : ℕ → Bool) (n : ℕ) → ((i : ℕ) → i < n → b i ≡ true) → upTo b n 0 ≡ true
-upTo-all b n h = upTo-from b n 0 (λ i k. ap b (omega arith) ∙ h i k)
-
--- every row: behind some, all, appended, before others
-pub every-drop : (b : List ℕ → Bool) (n : ℕ) (l : List (List ℕ)) → every b l ≡ true → every b (drop n l) ≡ true
-unfolding every
-every-drop b zero l h = h
-every-drop b (suc n) [] h = h
-every-drop b (suc n) (r ∷ l) h = every-drop b n l (and-both (b r) (every b l) h .1)
-
-pub every-all : (b : List ℕ → Bool) → ((r : List ℕ) → b r ≡ true) → (l : List (List ℕ)) → every b l ≡ true
-unfolding every
-every-all b f [] = refl
-every-all b f (r ∷ l) = and-in (b r) (every b l) (f r) (every-all b f l)
-
-pub every-append : (b : List ℕ → Bool) (l m : List (List ℕ)) → every b l ≡ true → every b m ≡ true → every b (l ++ m) ≡ true
-unfolding every
-every-append b [] m h k = k
-every-append b (r ∷ l) m h k =
-    let e : (b r ≡ true) × (every b l ≡ true) = and-both (b r) (every b l) h in
-    and-in (b r) (every b (l ++ m)) (e .0) (every-append b l m (e .1) k)
-
+-- every row before others
 pub every-front : (c : List ℕ → Bool) (l m : List (List ℕ)) → every c (l ++ m) ≡ true → every c l ≡ true
 unfolding every
 every-front c [] m h = refl
@@ -55,37 +31,14 @@ every-front c (r ∷ l) m h =
     let e : (c r ≡ true) × (every c (l ++ m) ≡ true) = and-both (c r) (every c (l ++ m)) h in
     and-in (c r) (every c l) (e .0) (every-front c l m (e .1))
 
--- those kept: what follows from the test that kept them; and that told of all
+-- those kept: what follows from the test that kept them
 pub every-picked : (a c : List ℕ → Bool) (l : List (List ℕ)) → every (λ (r : List ℕ). not (a r) || c r) l ≡ true → every c (keep a l) ≡ true
 every-picked a c l h = every-kept-where a (λ (r : List ℕ). not (a r) || c r) c (λ r e k. or-of (a r) (c r) e k) l h
-
-pub picked-every : (a c : List ℕ → Bool) (l : List (List ℕ)) → every c (keep a l) ≡ true → every (λ (r : List ℕ). not (a r) || c r) l ≡ true
-unfolding every keep
-picked-every a c [] h = refl
-picked-every a c (r ∷ l) h = pick (a r) (picked-every a c l) h
-  where
-    pick : (t : Bool) → (every c (keep a l) ≡ true → every (λ (q : List ℕ). not (a q) || c q) l ≡ true) → every c (consIf t r (keep a l)) ≡ true → ((not t || c r) && every (λ (q : List ℕ). not (a q) || c q) l) ≡ true
-    pick true f k =
-        let e : (c r ≡ true) × (every c (keep a l) ≡ true) = and-both (c r) (every c (keep a l)) k in
-        and-in (c r) (every (λ (q : List ℕ). not (a q) || c q) l) (e .0) (f (e .1))
-    pick false f k = f k
 
 -- rows that are those picked, then others, but for swaps: each passes what they pass
 pub online-all : (above : List ℕ → Bool) (rows opened : List (List ℕ)) {online : List (List ℕ)} → online ≅ keep above rows ++ opened
     → (c : List ℕ → Bool) → every (λ (r : List ℕ). not (above r) || c r) rows ≡ true → every c opened ≡ true → every c online ≡ true
 online-all above rows opened is c h k = ≅-every c is ∙ every-append c (keep above rows) opened (every-picked above c rows h) k
-
--- each two of those kept
-pub pairs-keep : (a : List ℕ → Bool) (b : List ℕ → List ℕ → Bool) (l : List (List ℕ)) → pairs b l ≡ true → pairs b (keep a l) ≡ true
-unfolding pairs keep
-pairs-keep a b [] h = refl
-pairs-keep a b (r ∷ l) h =
-    let e : (every (b r) l ≡ true) × (pairs b l ≡ true) = and-both (every (b r) l) (pairs b l) h in
-    pick (a r) (every-keep a (b r) l (e .0)) (pairs-keep a b l (e .1))
-  where
-    pick : (t : Bool) → every (b r) (keep a l) ≡ true → pairs b (keep a l) ≡ true → pairs b (consIf t r (keep a l)) ≡ true
-    pick true h k = and-in (every (b r) (keep a l)) (pairs b (keep a l)) h k
-    pick false h k = k
 
 -- rows of which none passes, before others
 pub keep-behind : (c : List ℕ → Bool) (l m : List (List ℕ)) → every (λ (r : List ℕ). not (c r)) l ≡ true → keep c (l ++ m) ≡ keep c m
@@ -93,19 +46,6 @@ keep-behind c l m h = keep-append c l m ∙ ap (λ (k : List (List ℕ)). k ++ k
 
 pub any-behind : (c : List ℕ → Bool) (l m : List (List ℕ)) → every (λ (r : List ℕ). not (c r)) l ≡ true → any c (l ++ m) ≡ any c m
 any-behind c l m h = any-by c (l ++ m) m (keep-behind c l m h)
-
--- a row is the same as itself
-pub same-itself : (l : List ℕ) → same l l ≡ true
-unfolding same
-same-itself [] = refl
-same-itself (x ∷ l) = and-in (eqb x x) (same l l) (eq-eqb x x refl) (same-itself l)
-
--- row i of the first n
-pub rows-at : (w n : ℕ) (t : List ℕ) (k i : ℕ) → i < n → getD (rows w n t k) i [] ≡ rowAt w t (k + i)
-unfolding rows
-rows-at w zero t k i p = absurd (omega arith)
-rows-at w (suc n) t k zero p = ap (λ (j : ℕ). rowAt w t j) (omega arith)
-rows-at w (suc n) t k (suc i) p = rows-at w n t (k + 1) i (omega arith) ∙ ap (λ (j : ℕ). rowAt w t j) (omega arith)
 
 -- what each of the rows that log records make passes
 pub every-numbered : (c : List ℕ → Bool) (k : ℕ) (l : List (List ℕ)) → Wide 14 l → ((i : ℕ) → i < length l → length (getD l i []) ≡ 14 → c (entered (getD l i []) (k + i)) ≡ true) → every c (numberedFrom k l) ≡ true

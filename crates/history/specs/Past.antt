@@ -6,6 +6,7 @@ use lib.ListN.{length}
 use lib.Dec.{eqb, leb}
 use Rattle.record.specs.Rows.{keep}
 use Rattle.record.specs.Record.{numberOf, committed, applied, onPage, committedOn, ownedBy, numberRows}
+use Rattle.rules.specs.declared.Params.{Params}
 use Rattle.rules.specs.Lent.{pageIn}
 
 pub record Past : Type 0 where
@@ -22,8 +23,8 @@ pub record Past : Type 0 where
   pub down : Bool
 
 -- format: "starts the history anew"
-unfoldable pub fresh : ℕ → ℕ → ℕ → List ℕ → Past
-fresh size pages last start = record { size = size; pages = pages; start = start; last = last; made = []; live = λ (x : ℕ). false; down = false }
+unfoldable pub fresh : Params → ℕ → List ℕ → Past
+fresh g last start = record { size = g .size; pages = g .pages; start = start; last = last; made = []; live = λ (x : ℕ). false; down = false }
 
 unfoldable pub begins : Past → ℕ → Past
 begins h x = record { size = h .size; pages = h .pages; start = h .start; last = h .last; made = h .made; live = λ (y : ℕ). eqb y x || h .live y; down = h .down }

@@ -6,6 +6,7 @@ use mathlib.Core.List.{List, []}
 use lib.ListN.{length}
 use lib.Dec.{leb}
 use Rattle.record.specs.Record.{rowOf}
+use Rattle.rules.specs.declared.Params.{Params}
 use Rattle.rules.specs.declared.Refusal.{Refusal}
 use Rattle.rules.specs.declared.Answer.{Answer}
 use Rattle.rules.specs.declared.Answer.the-variants.{Done, NotDue, Refused}
@@ -71,10 +72,10 @@ afterSteps minDel maxAge j s = cond (leb j (pagesOf s)) (afterPages minDel maxAg
 
 -- the history and the bytes that an honest use can come to
 pub data Run : Past → Lent → Type 0 where
-  -- any bytes at all, an accepted format, L as 01 ranges it
-  format : (s : Lent) (size pages frames room span last : ℕ) → last ≤ 4294967295 → formatCall s size pages frames room span last .answer ≡ Done (record { reads = 0; writes = 0; logs = 0 }) → Run (fresh size pages last (s .durable .stored)) (formatCall s size pages frames room span last .lent)
+  -- any bytes at all, an accepted format
+  format : (s : Lent) (g : Params) (last : ℕ) → formatCall s g last .answer ≡ Done (record { reads = 0; writes = 0; logs = 0 }) → Run (fresh g last (s .durable .stored)) (formatCall s g last .lent)
   -- a format that is refused
-  no-format : {h : Past} {s : Lent} → Run h s → (size pages frames room span last : ℕ) → (r : Refusal) → formatCall s size pages frames room span last .answer ≡ Refused r → Run h (formatCall s size pages frames room span last .lent)
+  no-format : {h : Past} {s : Lent} → Run h s → (g : Params) (last : ℕ) (r : Refusal) → formatCall s g last .answer ≡ Refused r → Run h (formatCall s g last .lent)
   -- any other call, while no restart is awaited
   call : {h : Past} {s : Lent} → Run h s → h .down ≡ false → (c : Call) → Run (told h c (outcome s c .answer)) (outcome s c .lent)
   -- a restart, at any time

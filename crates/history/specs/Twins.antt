@@ -2,13 +2,15 @@
 -- Each keeps house by itself: what it evicts, compacts and closes, and when, is its own.
 use Prim.Native.Nat.{ℕ, _+_, _≤_}
 use mathlib.Core.Path.{_≡_}
-use mathlib.Core.Bool.{Bool, true, false}
+use mathlib.Core.Bool.{Bool, true, false, _||_}
+use lib.Dec.{eqb}
+use Rattle.rules.specs.declared.Params.{Params}
 use Rattle.rules.specs.declared.Counts.{Counts}
 use Rattle.rules.specs.declared.Refusal.{Refusal}
-use Rattle.rules.specs.declared.Refusal.the-variants.{NotSound, Argument, ShortBuffer, NotLive, Live, Held, OnlineFull, LogFull, NumbersEnd, NoFrame}
 use Rattle.rules.specs.declared.Answer.{Answer}
 use Rattle.rules.specs.declared.Answer.the-variants.{Done, NotDue, Refused}
 use Rattle.rules.specs.declared.Verdict.the-variants.{Go}
+use Rattle.rules.specs.Answers.{codeOf}
 use Rattle.rules.specs.Lent.{Lent, Lost, pagesOf}
 use Rattle.rules.specs.Calls.{restartCall, formatCall, judgeCheckpoint}
 use Rattle.history.specs.Past.{Past, fresh, falls}
@@ -42,16 +44,7 @@ upkeep Restart = false
 
 -- refusals 7 and 8
 unfoldable pub isFull : Refusal → Bool
-isFull NotSound = false
-isFull (Argument b) = false
-isFull ShortBuffer = false
-isFull NotLive = false
-isFull Live = false
-isFull Held = false
-isFull OnlineFull = true
-isFull LogFull = true
-isFull NumbersEnd = false
-isFull NoFrame = false
+isFull r = eqb (codeOf r) 7 || eqb (codeOf r) 8
 
 unfoldable pub full : Answer → Bool
 full (Done counts) = false
@@ -64,10 +57,11 @@ pub data Agree : Answer → Answer → Type 0 where
   not-due : Agree NotDue NotDue
   refused : (r : Refusal) → Agree (Refused r) (Refused r)
 
--- what one store may do alone: upkeep with any arguments, or a format that is refused
+-- what one store may do alone: upkeep with any arguments, a format that is refused, and, while both await a restart, lose power once more
 pub data Aside (h : Past) (s : Lent) : Lent → Type 0 where
   keeping : h .down ≡ false → (c : Call) → upkeep c ≡ true → Aside h s (outcome s c .lent)
-  not-formatted : (size pages frames room span last : ℕ) (r : Refusal) → formatCall s size pages frames room span last .answer ≡ Refused r → Aside h s (formatCall s size pages frames room span last .lent)
+  not-formatted : (g : Params) (last : ℕ) (r : Refusal) → formatCall s g last .answer ≡ Refused r → Aside h s (formatCall s g last .lent)
+  lost-again : h .down ≡ true → (l : Lost) → Fits s l → Aside h s (afterLoss s l)
 
 -- a power loss of one store: between calls, or inside a checkpoint of its own
 pub data Loses (h : Past) (s : Lent) : Lent → Type 0 where
@@ -77,10 +71,10 @@ pub data Loses (h : Past) (s : Lent) : Lent → Type 0 where
 -- two stores with one history, neither of which has said 7 or 8 to a transaction call
 pub data Twins : Past → Lent → Lent → Type 0 where
   -- equal starting pages and L; frames, online table and log may differ in size
-  formats : (s₁ s₂ : Lent) (size pages last frames₁ room₁ span₁ frames₂ room₂ span₂ : ℕ) → last ≤ 4294967295 → s₁ .durable .stored ≡ s₂ .durable .stored
-      → formatCall s₁ size pages frames₁ room₁ span₁ last .answer ≡ Done (record { reads = 0; writes = 0; logs = 0 })
-      → formatCall s₂ size pages frames₂ room₂ span₂ last .answer ≡ Done (record { reads = 0; writes = 0; logs = 0 })
-      → Twins (fresh size pages last (s₁ .durable .stored)) (formatCall s₁ size pages frames₁ room₁ span₁ last .lent) (formatCall s₂ size pages frames₂ room₂ span₂ last .lent)
+  formats : (s₁ s₂ : Lent) (g₁ g₂ : Params) (last : ℕ) → g₁ .size ≡ g₂ .size → g₁ .pages ≡ g₂ .pages → s₁ .durable .stored ≡ s₂ .durable .stored
+      → formatCall s₁ g₁ last .answer ≡ Done (record { reads = 0; writes = 0; logs = 0 })
+      → formatCall s₂ g₂ last .answer ≡ Done (record { reads = 0; writes = 0; logs = 0 })
+      → Twins (fresh g₁ last (s₁ .durable .stored)) (formatCall s₁ g₁ last .lent) (formatCall s₂ g₂ last .lent)
   -- a transaction call, accepted or refused
   both : {h : Past} {s₁ s₂ : Lent} → Twins h s₁ s₂ → h .down ≡ false → (c : Call) → transaction c ≡ true → full (outcome s₁ c .answer) ≡ false → full (outcome s₂ c .answer) ≡ false
       → Twins (told h c (outcome s₁ c .answer)) (outcome s₁ c .lent) (outcome s₂ c .lent)

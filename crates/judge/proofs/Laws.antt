@@ -1,14 +1,16 @@
 -- Laws of a test that a call answered, of the rows that clash, and of a length that is eight.
 use Prim.Native.Nat.{ℕ, suc, _+_, _-_, _^_, _≤_, _<_}
 use native.Mathlib.Omega.{arith}
-use mathlib.Core.Path.{_≡_, sym, ap, _∙_}
-use mathlib.Core.Bool.{Bool, true, false, not, _&&_, _||_}
-use mathlib.Core.List.{List}
+use mathlib.Core.Path.{_≡_, refl, sym, ap, _∙_}
+use mathlib.Core.Bool.{Bool, true, false, not, _&&_, _||_, Bool·not-not}
+use mathlib.Core.List.{List, [], _∷_}
 use lib.Dec.{eqb, ltb}
 use borrow.Author.Tests.{eqb-true, ne-eqb, lt-ltb}
 use Rattle.record.specs.Rows.{rowAt, rows, any}
-use Rattle.record.specs.Record.{pageOf, offsetOf, lengthOf, ownerOf, isLength}
-use Rattle.rules.specs.Calls.{clashes}
+use Rattle.record.specs.Record.{pageOf, offsetOf, lengthOf, ownerOf, committed, isLength, rowOf, overlaps, shareByte, free}
+use Rattle.record.proofs.Fields.{row-page, row-offset, row-length, row-owner}
+use Rattle.rules.specs.Sound.{apart}
+use Rattle.rules.specs.Calls.{clashes, heldToRead, heldToUpdate}
 
 -- a test's negation from the test's value
 pub turned : (r b t : Bool) → r ≡ b → not r ≡ t → not b ≡ t
@@ -19,9 +21,27 @@ same r b t e h = sym e ∙ h
 
 -- a row's clash from its fields
 pub clash-fields : (x p offset w : ℕ) (r : List ℕ) (o g f l : ℕ) → o ≡ ownerOf r → g ≡ pageOf r → f ≡ offsetOf r → l ≡ lengthOf r
-    → (not (eqb o 0) && not (eqb o x) && eqb g p && ltb f (offset + w) && ltb offset (f + l)) ≡ clashes x p offset w r
+    → (not (eqb o 0) && not (eqb o x) && (eqb g p && ltb f (offset + w) && ltb offset (f + l))) ≡ clashes x p offset w r
 unfolding clashes
-clash-fields x p offset w r o g f l e₁ e₂ e₃ e₄ = λ i. not (eqb (e₁ i) 0) && not (eqb (e₁ i) x) && eqb (e₂ i) p && ltb (e₃ i) (offset + w) && ltb offset (e₃ i + e₄ i)
+clash-fields x p offset w r o g f l e₁ e₂ e₃ e₄ = λ i. not (eqb (e₁ i) 0) && not (eqb (e₁ i) x) && (eqb (e₂ i) p && ltb (e₃ i) (offset + w) && ltb offset (e₃ i + e₄ i))
+
+-- a row that an update's row would not be apart from is one that clashes with its bytes
+not-apart : (p offset w kind v x : ℕ) → p < 65536 → offset < 65536 → 1 ≤ x → (a : List ℕ) → clashes x p offset w a ≡ not (apart a (rowOf p offset w kind v x))
+unfolding clashes apart free shareByte
+not-apart p offset w kind v x h k n a =
+    let z : eqb x 0 ≡ false = ne-eqb x 0 (λ e. omega arith) in
+    rw (row-page p offset w kind v x h, row-offset p offset w kind v x k, row-length p offset w kind v x, row-owner p offset w kind v x, z)
+    (go (committed a) (eqb (ownerOf a) x) (overlaps p offset w a))
+  where
+    go : (c o y : Bool) → (not c && not o && y) ≡ not (c || false || o || not y)
+    go true o y = refl
+    go false true y = refl
+    go false false y = sym (Bool·not-not y)
+
+pub held-apart : (p offset w kind v x : ℕ) → p < 65536 → offset < 65536 → 1 ≤ x → (l : List (List ℕ)) → heldToRead l x p offset w ≡ heldToUpdate l (rowOf p offset w kind v x)
+unfolding any
+held-apart p offset w kind v x h k n [] = refl
+held-apart p offset w kind v x h k n (a ∷ l) = λ i. not-apart p offset w kind v x h k n a i || held-apart p offset w kind v x h k n l i
 
 -- the loop over the rows: none so far
 pub any-turn : (b : List ℕ → Bool) (t : List ℕ) (m i : ℕ) → i < m → b (rowAt 19 t i) ≡ false → any b (rows 19 (m - i) t i) ≡ any b (rows 19 (m - (i + 1)) t (i + 1))

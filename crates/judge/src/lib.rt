@@ -8,7 +8,7 @@ ghost use lib.Dec.{leb, ltb};
 ghost use Rattle.record.specs.Rows.{rowAt, rows};
 ghost use Rattle.record.specs.Record.{isLength};
 ghost use Rattle.rules.specs.Sound.{between};
-ghost use Rattle.rules.specs.Calls.{clashes, held, isNumber, isLive, mayBegin, mayRead, mayUpdate, mayAbort, mayEvict, mayCommit, mayCompact, mayCheckpoint};
+ghost use Rattle.rules.specs.Calls.{clashes, heldToRead, isNumber, isLive, verdictOf, beginRefusals, readRefusals, updateRefusals, abortRefusals, evictRefusals, commitRefusals, compactRefusals, checkpointRefusals};
 use rules::Bad;
 use rules::Refusal;
 use rules::Verdict;
@@ -31,7 +31,7 @@ pub fn is_live(tables: &[u8], x: u32) -> bool
 
 pub fn may_begin(tables: &[u8], x: u32) -> Verdict
     requires { ⌜ 35 ≤ length (now tables) ⌝ }
-    ensures { λ r. ⌜ r ≡ mayBegin (now (tables .entry)) x ⌝ }
+    ensures { λ r. ⌜ r ≡ verdictOf (beginRefusals (isLive (now (tables .entry))) x) ⌝ }
 {
     if !is_number(x) {
         return Verdict::Refuse(Refusal::Argument(Bad::Number));
@@ -44,7 +44,7 @@ pub fn may_begin(tables: &[u8], x: u32) -> Verdict
 
 pub fn may_abort(tables: &[u8], x: u32) -> Verdict
     requires { ⌜ 35 ≤ length (now tables) ⌝ }
-    ensures { λ r. ⌜ r ≡ mayAbort (now (tables .entry)) x ⌝ }
+    ensures { λ r. ⌜ r ≡ verdictOf (abortRefusals (isLive (now (tables .entry))) x) ⌝ }
 {
     if !is_number(x) {
         return Verdict::Refuse(Refusal::Argument(Bad::Number));
@@ -57,7 +57,7 @@ pub fn may_abort(tables: &[u8], x: u32) -> Verdict
 
 pub fn may_commit(span: usize, n: usize, last: u64, tables: &[u8], k: usize, x: u32) -> Verdict
     requires { ⌜ (35 ≤ length (now tables)) × (n ≤ 2048) × (k ≤ 512) × (last < 4294967296) ⌝ }
-    ensures { λ r. ⌜ r ≡ mayCommit span n last (now (tables .entry)) k x ⌝ }
+    ensures { λ r. ⌜ r ≡ verdictOf (commitRefusals span n last (isLive (now (tables .entry))) k x) ⌝ }
 {
     if !is_number(x) {
         return Verdict::Refuse(Refusal::Argument(Bad::Number));
@@ -75,7 +75,7 @@ pub fn may_commit(span: usize, n: usize, last: u64, tables: &[u8], k: usize, x: 
 }
 
 pub fn may_evict(pages: usize, entry: u8, p: u32) -> Verdict
-    ensures { λ r. ⌜ r ≡ mayEvict pages entry p ⌝ }
+    ensures { λ r. ⌜ r ≡ verdictOf (evictRefusals pages entry p) ⌝ }
 {
     if pages <= p as usize {
         return Verdict::Refuse(Refusal::Argument(Bad::Page));
@@ -93,7 +93,7 @@ fn are_parameters(min_del: u32, max_age: u32) -> bool
 }
 
 pub fn may_compact(pages: usize, p: u32, min_del: u32, max_age: u32) -> Verdict
-    ensures { λ r. ⌜ r ≡ mayCompact pages p «min_del» «max_age» ⌝ }
+    ensures { λ r. ⌜ r ≡ verdictOf (compactRefusals pages p «min_del» «max_age») ⌝ }
 {
     if pages <= p as usize {
         return Verdict::Refuse(Refusal::Argument(Bad::Page));
@@ -105,7 +105,7 @@ pub fn may_compact(pages: usize, p: u32, min_del: u32, max_age: u32) -> Verdict
 }
 
 pub fn may_checkpoint(min_del: u32, max_age: u32) -> Verdict
-    ensures { λ r. ⌜ r ≡ mayCheckpoint «min_del» «max_age» ⌝ }
+    ensures { λ r. ⌜ r ≡ verdictOf (checkpointRefusals «min_del» «max_age») ⌝ }
 {
     if !are_parameters(min_del, max_age) {
         return Verdict::Refuse(Refusal::Argument(Bad::Parameter));
@@ -113,7 +113,7 @@ pub fn may_checkpoint(min_del: u32, max_age: u32) -> Verdict
     Verdict::Go
 }
 
-// Row i of the online table is another live owner's, and shares a byte with those asked for.
+// Row i of the online table is another live owner's, and has a byte of those asked for.
 fn clashes_row(online: &[u8], i: usize, x: u32, p: u32, offset: u32, w: u32) -> bool
     requires { ⌜ i * 19 + 19 ≤ length (now online) ⌝ }
     ensures { λ r. ⌜ r ≡ clashes x p offset w (rowAt 19 (now (online .entry)) i) ⌝ }
@@ -123,13 +123,13 @@ fn clashes_row(online: &[u8], i: usize, x: u32, p: u32, offset: u32, w: u32) -> 
     let from = record::offset_of(online, 19, i);
     let to = from + record::length_of(online, 19, i);
     let at = offset as usize;
-    (owner != 0) & (owner != x) & (page.0 == p as usize) & (from < at + w as usize) & (at < to)
+    (owner != 0) & (owner != x) & ((page.0 == p as usize) & (from < at + w as usize) & (at < to))
 }
 
 // A byte asked for is in another live owner's record.
 fn is_held(online: &[u8], m: usize, x: u32, p: u32, offset: u32, w: u32) -> bool
     requires { ⌜ m * 19 ≤ length (now online) ⌝ }
-    ensures { λ r. ⌜ r ≡ held (rows 19 m (now (online .entry)) 0) x p offset w ⌝ }
+    ensures { λ r. ⌜ r ≡ heldToRead (rows 19 m (now (online .entry)) 0) x p offset w ⌝ }
 {
     let mut i = 0;
     while i < m {
@@ -178,7 +178,7 @@ pub fn may_read(
     w: u32,
 ) -> Verdict
     requires { ⌜ (35 ≤ length (now tables)) × (m * 19 ≤ length (now online)) ⌝ }
-    ensures { λ r. ⌜ r ≡ mayRead size pages (now (tables .entry)) (rows 19 m (now (online .entry)) 0) room x p offset w ⌝ }
+    ensures { λ r. ⌜ r ≡ verdictOf (readRefusals size pages (isLive (now (tables .entry))) (rows 19 m (now (online .entry)) 0) room x p offset w) ⌝ }
 {
     if pages <= p as usize {
         return Verdict::Refuse(Refusal::Argument(Bad::Page));
@@ -214,7 +214,7 @@ fn is_between(w: u32, size: usize) -> bool
 pub fn may_update(
     size: usize,
     pages: usize,
-    free: usize,
+    room: usize,
     tables: &[u8],
     online: &[u8],
     m: usize,
@@ -225,8 +225,8 @@ pub fn may_update(
     kind: u32,
     v: u64,
 ) -> Verdict
-    requires { ⌜ (35 ≤ length (now tables)) × (m * 19 ≤ length (now online)) ⌝ }
-    ensures { λ r. ⌜ r ≡ mayUpdate size pages free (now (tables .entry)) (rows 19 m (now (online .entry)) 0) x p offset w kind v ⌝ }
+    requires { ⌜ (35 ≤ length (now tables)) × (m ≤ 512) × (m * 19 ≤ length (now online)) × (size ≤ 4096) × (pages ≤ 1024) ⌝ }
+    ensures { λ r. ⌜ r ≡ verdictOf (updateRefusals size pages room m (isLive (now (tables .entry))) (rows 19 m (now (online .entry)) 0) x p offset w kind v) ⌝ }
 {
     if pages <= p as usize {
         return Verdict::Refuse(Refusal::Argument(Bad::Page));
@@ -252,7 +252,7 @@ pub fn may_update(
     if is_held(online, m, x, p, offset, w) {
         return Verdict::Refuse(Refusal::Held);
     }
-    if free < 1 {
+    if room < m + 1 {
         return Verdict::Refuse(Refusal::OnlineFull);
     }
     Verdict::Go

@@ -8,51 +8,17 @@ use lib.ListN.{length, getD, set, replicate, length-set, length-replicate}
 use lib.Seq.{getD-set-same, getD-set-other, set-out}
 use lib.Dec.{eqb, leb, ltb}
 use borrow.Author.Tests.{ltb-true, ltb-false, leb-true, leb-false, eqb-true, eqb-false, lt-ltb, le-ltb, le-leb, eq-eqb, ne-eqb, not-true}
-use Rattle.word.proofs.Tests.{and-both, so}
+use Rattle.word.proofs.Tests.{and-both, so, and-swap}
 use Rattle.record.specs.Rows.{rowAt, rows, keep, consIf}
-use Rattle.record.specs.Record.{pageOf, offsetOf, lengthOf, ownerOf, numberOf, committed, shareByte, isLength, wellFormed}
+use Rattle.record.specs.Record.{pageOf, offsetOf, lengthOf, ownerOf, numberOf, committed, shareByte, isLength, wellFormed, free}
 use Rattle.rules.specs.Sound.{every, pairs, upTo, between, apart}
 use Rattle.rules.proofs.Every.{every-kept, every-keep}
-use Rattle.onlinecheck.specs.Online.{owned, pageBelow}
-use Rattle.onlinecheck.specs.Bytes.{openOn, placed, Chain, Linked, Passed, freeByte, markBytes, freeRow, withRow, freeRows, withRows}
-use Rattle.onlinecheck.proofs.Rows.{and-swap, upTo-fail, upTo-turn, upTo-done}
+use Rattle.rules.specs.Shape.{pageBelow}
+use Rattle.onlinecheck.specs.Online.{owningIn}
+use Rattle.onlinecheck.specs.Bytes.{openOn, bounded, Chain, Linked, Passed, freeByte, markBytes, freeRow, withRow, freeRows, withRows}
+use Rattle.rules.proofs.Walks.{not-both, upTo-at, upTo-all, upTo-not, upTo-alike, upTo-fail, upTo-turn, upTo-done}
 use Rattle.onlinecheck.proofs.Laws.{apart-all}
 use Rattle.onlinecheck.proofs.Chains.{chain-none, chain-one, chain-first}
-
-not-both : (x : Bool) → x ≡ true → x ≡ false → ⊥
-not-both x a b = let z : _≡_ {A = ℕ} 0 1 = cc in omega arith
-
--- tests of the n numbers from i on
-upTo-at : (b : ℕ → Bool) (n i k : ℕ) → i ≤ k → k < i + n → upTo b n i ≡ true → b k ≡ true
-unfolding upTo
-upTo-at b zero i k p q h = absurd (omega arith)
-upTo-at b (suc n) i k p q h = pick (eqb i k) refl (λ u. upTo-at b n (i + 1) k u (omega arith) (and-both (b i) (upTo b n (i + 1)) h .1))
-  where
-    pick : (x : Bool) → eqb i k ≡ x → (i + 1 ≤ k → b k ≡ true) → b k ≡ true
-    pick true e f = rw (eqb-true i k e) at (and-both (b i) (upTo b n (i + 1)) h .0)
-    pick false e f =
-        let d : (i ≡ k → ⊥) = eqb-false i k e in
-        f (omega arith)
-
-upTo-all : (b : ℕ → Bool) (n i : ℕ) → ((k : ℕ) → i ≤ k → k < i + n → b k ≡ true) → upTo b n i ≡ true
-unfolding upTo
-upTo-all b zero i f = refl
-upTo-all b (suc n) i f = rw (f i (omega arith) (omega arith)) (upTo-all b n (i + 1) (λ k p q. f k (omega arith) (omega arith)))
-
-upTo-not : (b : ℕ → Bool) (n i k : ℕ) → i ≤ k → k < i + n → b k ≡ false → upTo b n i ≡ false
-upTo-not b n i k p q h = pick (upTo b n i) refl
-  where
-    pick : (x : Bool) → upTo b n i ≡ x → upTo b n i ≡ false
-    pick true e = absurd (not-both (b k) (upTo-at b n i k p q e) h)
-    pick false e = e
-
-upTo-alike : (b d : ℕ → Bool) (n i : ℕ) → ((k : ℕ) → i ≤ k → k < i + n → b k ≡ d k) → upTo b n i ≡ upTo d n i
-unfolding upTo
-upTo-alike b d zero i f = refl
-upTo-alike b d (suc n) i f =
-    let e = f i (omega arith) (omega arith) in
-    let g = upTo-alike b d n (i + 1) (λ k p q. f k (omega arith) (omega arith)) in
-    rw (e, g)
 
 -- marks of n bytes from k on: outside, within, how many, how great
 mark-out : (mine n k : ℕ) (a : List ℕ) (b : ℕ) → (k ≤ b → b < k + n → ⊥) → getD (markBytes mine n k a) b 0 ≡ getD a b 0
@@ -163,16 +129,16 @@ module _ (base x y k n : ℕ) (a : List ℕ) (within : k + n ≤ length a) where
           let d : o + w ≤ k = ltb-false k (o + w) f in
           rw (e, f) (same (λ b p q. with-out b (λ r s. omega arith)))
 
--- what a row that is placed has
-placed-of : (r : List ℕ) → placed r ≡ true → (1 ≤ lengthOf r) × (offsetOf r + lengthOf r ≤ 4096) × (ownerOf r ≤ 32)
+-- what a bounded row has
+placed-of : (r : List ℕ) → bounded r ≡ true → (1 ≤ lengthOf r) × (offsetOf r + lengthOf r ≤ 4096) × (ownerOf r ≤ 32)
 placed-of r h =
     let a = and-both (leb 1 (lengthOf r) && leb (offsetOf r + lengthOf r) 4096) (leb (ownerOf r) 32) h in
     let b = and-both (leb 1 (lengthOf r)) (leb (offsetOf r + lengthOf r) 4096) (a .0) in
     (leb-true 1 (lengthOf r) (b .0), leb-true (offsetOf r + lengthOf r) 4096 (b .1), leb-true (ownerOf r) 32 (a .1))
 
 -- a row is free of the marks and of one row more, of the same page
-row-with : (p base : ℕ) (a r q : List ℕ) → length a ≡ 4096 → openOn p r ≡ true → openOn p q ≡ true → placed r ≡ true → placed q ≡ true → freeRow base a r ≡ true → freeRow base (withRow base a r) q ≡ (freeRow base a q && apart r q)
-unfolding freeRow withRow apart shareByte
+row-with : (p base : ℕ) (a r q : List ℕ) → length a ≡ 4096 → openOn p r ≡ true → openOn p q ≡ true → bounded r ≡ true → bounded q ≡ true → freeRow base a r ≡ true → freeRow base (withRow base a r) q ≡ (freeRow base a q && apart r q)
+unfolding freeRow withRow apart free shareByte
 row-with p base a r q n or oq pr pq h =
     let c = and-both (eqb (pageOf r) p) (not (committed r)) or in
     let d = and-both (eqb (pageOf q) p) (not (committed q)) oq in
@@ -192,22 +158,22 @@ row-length : (base : ℕ) (a r : List ℕ) → length (withRow base a r) ≡ len
 unfolding withRow
 row-length base a r = mark-length (base + ownerOf r) (lengthOf r) (offsetOf r) a
 
-rows-with : (p base : ℕ) (a r : List ℕ) → length a ≡ 4096 → openOn p r ≡ true → placed r ≡ true → freeRow base a r ≡ true → (l : List (List ℕ)) → every (openOn p) l ≡ true → every placed l ≡ true → every (freeRow base (withRow base a r)) l ≡ (every (freeRow base a) l && every (apart r) l)
+rows-with : (p base : ℕ) (a r : List ℕ) → length a ≡ 4096 → openOn p r ≡ true → bounded r ≡ true → freeRow base a r ≡ true → (l : List (List ℕ)) → every (openOn p) l ≡ true → every bounded l ≡ true → every (freeRow base (withRow base a r)) l ≡ (every (freeRow base a) l && every (apart r) l)
 unfolding every
 rows-with p base a r n o h f [] g k = refl
 rows-with p base a r n o h f (q ∷ l) g k =
     let u = and-both (openOn p q) (every (openOn p) l) g in
-    let v = and-both (placed q) (every placed l) k in
+    let v = and-both (bounded q) (every bounded l) k in
     rw (row-with p base a r q n o (u .0) h (v .0) f, rows-with p base a r n o h f l (u .1) (v .1))
     (and-swap (freeRow base a q) (apart r q) (every (freeRow base a) l) (every (apart r) l))
 
 -- each row of a page free when its turn comes: free of the marks at the start, and all apart
-rows-pairs : (p base : ℕ) (l : List (List ℕ)) (a : List ℕ) → length a ≡ 4096 → every (openOn p) l ≡ true → every placed l ≡ true → freeRows base a l ≡ (every (freeRow base a) l && pairs apart l)
+rows-pairs : (p base : ℕ) (l : List (List ℕ)) (a : List ℕ) → length a ≡ 4096 → every (openOn p) l ≡ true → every bounded l ≡ true → freeRows base a l ≡ (every (freeRow base a) l && pairs apart l)
 unfolding every pairs freeRows
 rows-pairs p base [] a n g k = refl
 rows-pairs p base (r ∷ l) a n g k =
     let u = and-both (openOn p r) (every (openOn p) l) g in
-    let v = and-both (placed r) (every placed l) k in
+    let v = and-both (bounded r) (every bounded l) k in
     pick (freeRow base a r) refl (rows-pairs p base l (withRow base a r) (row-length base a r ∙ n) (u .1) (v .1)) (λ f. rows-with p base a r n (u .0) (v .0) f l (u .1) (v .1))
   where
     pick : (x : Bool) → freeRow base a r ≡ x → freeRows base (withRow base a r) l ≡ (every (freeRow base (withRow base a r)) l && pairs apart l) → (freeRow base a r ≡ true → every (freeRow base (withRow base a r)) l ≡ (every (freeRow base a) l && every (apart r) l)) → (freeRow base a r && freeRows base (withRow base a r) l) ≡ (freeRow base a r && every (freeRow base a) l && (every (apart r) l && pairs apart l))
@@ -220,7 +186,7 @@ unfolding every freeRow
 free-start base a f [] = refl
 free-start base a f (r ∷ l) = rw (upTo-all (freeByte base (base + ownerOf r) a) (lengthOf r) (offsetOf r) (λ k p q. free-low base (base + ownerOf r) a k (f k))) (free-start base a f l)
 
-rows-apart : (p base : ℕ) (l : List (List ℕ)) (a : List ℕ) → length a ≡ 4096 → ((b : ℕ) → getD a b 0 ≤ base) → every (openOn p) l ≡ true → every placed l ≡ true → freeRows base a l ≡ pairs apart l
+rows-apart : (p base : ℕ) (l : List (List ℕ)) (a : List ℕ) → length a ≡ 4096 → ((b : ℕ) → getD a b 0 ≤ base) → every (openOn p) l ≡ true → every bounded l ≡ true → freeRows base a l ≡ pairs apart l
 rows-apart p base l a n f g k = rows-pairs p base l a n g k ∙ (rw (free-start base a f l))
 
 rows-length : (base : ℕ) (l : List (List ℕ)) (a : List ℕ) → length (withRows base a l) ≡ length a
@@ -228,17 +194,17 @@ unfolding withRows
 rows-length base [] a = refl
 rows-length base (r ∷ l) a = rows-length base l (withRow base a r) ∙ row-length base a r
 
-rows-most : (top base : ℕ) (l : List (List ℕ)) (a : List ℕ) → base + 32 ≤ top → every placed l ≡ true → ((b : ℕ) → getD a b 0 ≤ top) → (b : ℕ) → getD (withRows base a l) b 0 ≤ top
+rows-most : (top base : ℕ) (l : List (List ℕ)) (a : List ℕ) → base + 32 ≤ top → every bounded l ≡ true → ((b : ℕ) → getD a b 0 ≤ top) → (b : ℕ) → getD (withRows base a l) b 0 ≤ top
 unfolding withRows withRow every
 rows-most top base [] a h k f b = f b
 rows-most top base (r ∷ l) a h k f b =
-    let v = and-both (placed r) (every placed l) k in
+    let v = and-both (bounded r) (every bounded l) k in
     let o : ownerOf r ≤ 32 = placed-of r (v .0) .2 in
     rows-most top base l (withRow base a r) h (v .1) (mark-most top (base + ownerOf r) (lengthOf r) (offsetOf r) a (omega arith) f) b
 
 -- an uncommitted row is apart from all that are apart from it on its page
 apart-off : (r q : List ℕ) → openOn (pageOf r) q ≡ false → apart r q ≡ true
-unfolding apart shareByte
+unfolding apart free shareByte
 apart-off r q h = pick (committed q) (eqb (pageOf q) (pageOf r)) refl refl
   where
     pick : (x y : Bool) → committed q ≡ x → eqb (pageOf q) (pageOf r) ≡ y → apart r q ≡ true
@@ -331,11 +297,11 @@ module _ (t : List ℕ) (m : ℕ) (heads after : List ℕ) (linked : Linked t m 
   pub first-chain : (i q head : ℕ) → q ≡ pageOf (rowAt 19 t i) → q < 1024 → head ≡ getD heads q 0 → head ≡ i → Chain t m after 0 i (keep (openOn (pageOf (rowAt 19 t i))) (rows 19 m t 0))
   first-chain i q head e h f g = rw (sym f ∙ g, e) at (page-chain q h)
 
-  pub pass-first : (i : ℕ) (marks d : List ℕ) (x : Bool) → i < m → every placed (rows 19 m t 0) ≡ true → x ≡ freeRows (i * 64) marks (keep (openOn (pageOf (rowAt 19 t i))) (rows 19 m t 0)) → (x ≡ true → d ≡ withRows (i * 64) marks (keep (openOn (pageOf (rowAt 19 t i))) (rows 19 m t 0))) → Passed t m i heads marks → (x ≡ true → Passed t m (i + 1) heads d) × (x ≡ false → pairs apart (rows 19 m t 0) ≡ false)
+  pub pass-first : (i : ℕ) (marks d : List ℕ) (x : Bool) → i < m → every bounded (rows 19 m t 0) ≡ true → x ≡ freeRows (i * 64) marks (keep (openOn (pageOf (rowAt 19 t i))) (rows 19 m t 0)) → (x ≡ true → d ≡ withRows (i * 64) marks (keep (openOn (pageOf (rowAt 19 t i))) (rows 19 m t 0))) → Passed t m i heads marks → (x ≡ true → Passed t m (i + 1) heads d) × (x ≡ false → pairs apart (rows 19 m t 0) ≡ false)
   pass-first i marks d x h k e f w =
       let b = openOn (pageOf (rowAt 19 t i)) in
       let l = keep b (rows 19 m t 0) in
-      let g : every placed l ≡ true = every-keep b placed (rows 19 m t 0) k in
+      let g : every bounded l ≡ true = every-keep b bounded (rows 19 m t 0) k in
       let a : x ≡ pairs apart l = e ∙ rows-apart (pageOf (rowAt 19 t i)) (i * 64) l marks (w .wide) (w .most) (every-kept b b (λ r e. e) (rows 19 m t 0)) g in (
         λ y. rw (f y) (pass i marks (withRows (i * 64) marks l) (rows-length (i * 64) l marks ∙ w .wide) (rows-most ((i + 1) * 64) (i * 64) l marks (omega arith) g (λ c. omega (arith, w .most c))) (λ p u v. rw (page-first i p h u v) at (sym a ∙ y)) w),
         λ y. clash b (pairs apart (rows 19 m t 0)) refl (sym a ∙ y),
@@ -366,8 +332,8 @@ unfolding isLength
 length-some zero h = let z : _≡_ {A = ℕ} 0 1 = cc in absurd (omega arith)
 length-some (suc w) h = omega arith
 
-place-one : (size pages last : ℕ) (tables r : List ℕ) → size ≤ 4096 → wellFormed size pages r ≡ true → owned tables last r ≡ true → placed r ≡ true
-unfolding wellFormed owned
+place-one : (size pages last : ℕ) (tables r : List ℕ) → size ≤ 4096 → wellFormed size pages r ≡ true → owningIn tables last r ≡ true → bounded r ≡ true
+unfolding wellFormed owningIn
 place-one size pages last tables r s f k =
     let a : ((ltb (pageOf r) pages && isLength (lengthOf r)) ≡ true) × (leb (offsetOf r + lengthOf r) size ≡ true) = and-both _ _ (and-both _ _ (and-both _ _ f .0) .0) in
     let w : 1 ≤ lengthOf r = length-some (lengthOf r) (and-both (ltb (pageOf r) pages) (isLength (lengthOf r)) (a .0) .1) in
@@ -379,19 +345,19 @@ place-one size pages last tables r s f k =
     few x true k z e f = omega (arith, eqb-true x 0 e)
     few x false k z e f = leb-true x 32 (and-both (leb x 32) (eqb k 0) (and-both (leb x 32 && eqb k 0) z f .0) .0)
 
-place : (size pages last : ℕ) (tables : List ℕ) → size ≤ 4096 → (l : List (List ℕ)) → every (wellFormed size pages) l ≡ true → every (owned tables last) l ≡ true → every placed l ≡ true
+place : (size pages last : ℕ) (tables : List ℕ) → size ≤ 4096 → (l : List (List ℕ)) → every (wellFormed size pages) l ≡ true → every (owningIn tables last) l ≡ true → every bounded l ≡ true
 unfolding every
 place size pages last tables s [] h g = refl
 place size pages last tables s (r ∷ l) h g =
     let u = and-both (wellFormed size pages r) (every (wellFormed size pages) l) h in
-    let v = and-both (owned tables last r) (every (owned tables last) l) g in
+    let v = and-both (owningIn tables last r) (every (owningIn tables last) l) g in
     rw (place-one size pages last tables r s (u .0) (v .0)) (place size pages last tables s l (u .1) (v .1))
 
 -- so the clauses of the rows by themselves give it
-pub place-give : (tables : List ℕ) (size pages last : ℕ) (l : List (List ℕ)) (x z u y : Bool) → size ≤ 4096 → x ≡ (every (wellFormed size pages) l && every (owned tables last) l && z && u && y) → not x ≡ false → every placed l ≡ true
+pub place-give : (tables : List ℕ) (size pages last : ℕ) (l : List (List ℕ)) (x z u y : Bool) → size ≤ 4096 → x ≡ (every (wellFormed size pages) l && every (owningIn tables last) l && z && u && y) → not x ≡ false → every bounded l ≡ true
 place-give tables size pages last l x z u y s e h =
     let f = every (wellFormed size pages) l in
-    let o = every (owned tables last) l in
+    let o = every (owningIn tables last) l in
     let b = and-both f o (and-both (f && o) z (and-both (f && o && z) u (and-both (f && o && z && u) y (so _ _ e h) .0) .0) .0) in
     place size pages last tables s l (b .0) (b .1)
 
@@ -430,7 +396,7 @@ take-done a e base mine was k marks h t =
     (upTo-done (freeByte base mine was) e k (upTo (freeByte base mine was) (e - a) a) h (t .free), λ z. rw n at (t .marked))
 
 -- a row, by the fields that were read
-pub row-fits : (r : List ℕ) (x a w : ℕ) → x ≡ ownerOf r → a ≡ offsetOf r → w ≡ lengthOf r → placed r ≡ true → (x ≤ 32) × (a + w ≤ 4096)
+pub row-fits : (r : List ℕ) (x a w : ℕ) → x ≡ ownerOf r → a ≡ offsetOf r → w ≡ lengthOf r → bounded r ≡ true → (x ≤ 32) × (a + w ≤ 4096)
 row-fits r x a w e f g h = let k = placed-of r h in (rw e (k .2), rw (f, g) (k .1))
 
 pub row-taken : (base : ℕ) (marks d r : List ℕ) (x a w : ℕ) (y : Bool) → x ≡ ownerOf r → a ≡ offsetOf r → w ≡ lengthOf r → y ≡ upTo (freeByte base (base + x) marks) (a + w - a) a → (y ≡ true → d ≡ markBytes (base + x) (a + w - a) a marks) → (y ≡ freeRow base marks r) × (y ≡ true → d ≡ withRow base marks r)

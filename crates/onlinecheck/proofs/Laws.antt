@@ -13,42 +13,36 @@ use Rattle.word.specs.Word.{num}
 use Rattle.word.proofs.Tests.{and-both}
 use Rattle.record.specs.Part.{part}
 use Rattle.record.specs.Rows.{rowAt, rows}
-use Rattle.record.specs.Record.{pageOf, offsetOf, lengthOf, ownerOf, numberOf, committed, bodyOf, wellFormed, shareByte}
+use Rattle.record.specs.Record.{pageOf, offsetOf, lengthOf, ownerOf, numberOf, committed, bodyOf, wellFormed, shareByte, free}
 use Rattle.rules.specs.Lent.{Lent, sizeOf, pagesOf, framesOf, lastOf, loggedOf, countOf}
 use Rattle.rules.specs.Sound.{every, pairs, between, same, apart, owning, s7-online-records, s8-owners, s14-online-zero, s10-in-log, s11-above-stamp, s9-number-once, s12-dirty, s13-apart}
-use Rattle.onlinecheck.specs.Online.{owned, inLog, aboveStamp, rowTest, otherNumber, entryAgrees, pageBelow, onlineTest}
-use Rattle.onlinecheck.proofs.Rows.{every-both, every-imp}
+use Rattle.onlinecheck.specs.Online.{owningIn, inLog, pastStamp, rowTest, otherNumber, entryAgrees, onlineTest}
+use Rattle.rules.proofs.Every.{every-imp}
+use Rattle.onlinecheck.proofs.Rows.{every-both}
 
 -- the test is soundness's clauses about the online table
 pub online-is : (s : Lent) → onlineTest (s .lost .online) (countOf s) (s .durable .log) (loggedOf s) (s .durable .marks) (s .lost .tables) (sizeOf s) (pagesOf s) (framesOf s) (lastOf s) ≡ (s7-online-records s && s8-owners s && s14-online-zero s && s10-in-log s && s11-above-stamp s && s9-number-once s && s12-dirty s && s13-apart s)
-unfolding owned owning inLog aboveStamp otherNumber entryAgrees onlineTest s7-online-records s8-owners s14-online-zero s10-in-log s11-above-stamp s9-number-once s12-dirty s13-apart
+unfolding owningIn owning inLog pastStamp otherNumber entryAgrees onlineTest s7-online-records s8-owners s14-online-zero s10-in-log s11-above-stamp s9-number-once s12-dirty s13-apart
 online-is s = refl
 
 -- S7: what later clauses take from it
-pub formed-below : (size pages : ℕ) (r : List ℕ) → wellFormed size pages r ≡ true → pageBelow pages r ≡ true
-unfolding wellFormed
-formed-below size pages r k = and-both _ _ (and-both _ _ (and-both _ _ (and-both _ _ k .0) .0) .0) .0
-
-pub formed-page : (size pages : ℕ) (l : List (List ℕ)) → every (wellFormed size pages) l ≡ true → every (pageBelow pages) l ≡ true
-formed-page size pages l h = every-imp (wellFormed size pages) (pageBelow pages) (formed-below size pages) l h
-
 -- S8
-pub owned-committed : (tables : List ℕ) (last : ℕ) (r : List ℕ) (x k : ℕ) → x ≡ ownerOf r → k ≡ numberOf r → x ≡ 0 → (leb 1 k && leb k last) ≡ owned tables last r
-unfolding owned
+pub owned-committed : (tables : List ℕ) (last : ℕ) (r : List ℕ) (x k : ℕ) → x ≡ ownerOf r → k ≡ numberOf r → x ≡ 0 → (leb 1 k && leb k last) ≡ owningIn tables last r
+unfolding owningIn
 owned-committed tables last r x k a b h = rw (← a, ← b, h)
 
-pub owned-past : (tables : List ℕ) (last : ℕ) (r : List ℕ) (x : ℕ) → x ≡ ownerOf r → 32 < x → false ≡ owned tables last r
-unfolding owned
+pub owned-past : (tables : List ℕ) (last : ℕ) (r : List ℕ) (x : ℕ) → x ≡ ownerOf r → 32 < x → false ≡ owningIn tables last r
+unfolding owningIn
 owned-past tables last r x a h =
     let f : eqb x 0 ≡ false = ne-eqb x 0 (λ e. omega arith) in
     rw (← a, f, lt-leb x 32 h)
 
-pub owned-live : (tables : List ℕ) (last : ℕ) (r : List ℕ) (x k at : ℕ) → x ≡ ownerOf r → k ≡ numberOf r → (x ≡ 0 → ⊥) → x ≤ 32 → at ≡ 2 + x → (eqb k 0 && eqb (getD tables at 0) 1) ≡ owned tables last r
-unfolding owned
+pub owned-live : (tables : List ℕ) (last : ℕ) (r : List ℕ) (x k at : ℕ) → x ≡ ownerOf r → k ≡ numberOf r → (x ≡ 0 → ⊥) → x ≤ 32 → at ≡ 2 + x → (eqb k 0 && eqb (getD tables at 0) 1) ≡ owningIn tables last r
+unfolding owningIn
 owned-live tables last r x k at a b n h e = rw (← a, ← b, ne-eqb x 0 n, le-leb x 32 h, e)
 
-pub owned-number : (tables : List ℕ) (last : ℕ) (r : List ℕ) → owned tables last r ≡ true → numberOf r ≤ last
-unfolding owned
+pub owned-number : (tables : List ℕ) (last : ℕ) (r : List ℕ) → owningIn tables last r ≡ true → numberOf r ≤ last
+unfolding owningIn
 owned-number tables last r h = pick (committed r) (numberOf r) (leb (ownerOf r) 32) (eqb (getD tables (2 + ownerOf r) 0) 1) h
   where
     pick : (x : Bool) (k : ℕ) (y z : Bool) → cond x (between 1 k last) (y && eqb k 0 && z) ≡ true → k ≤ last
@@ -132,21 +126,21 @@ unfolding inLog
 log-row log first r x k y a b h d e = rw (← a, ← b, h, le-leb first k d) e
 
 -- S11
-pub above-free : (marks r : List ℕ) (x : ℕ) → x ≡ ownerOf r → (x ≡ 0 → ⊥) → true ≡ aboveStamp marks r
-unfolding aboveStamp
+pub above-free : (marks r : List ℕ) (x : ℕ) → x ≡ ownerOf r → (x ≡ 0 → ⊥) → true ≡ pastStamp marks r
+unfolding pastStamp
 above-free marks r x a h = rw (← a, ne-eqb x 0 h)
 
-pub above-row : (marks r : List ℕ) (x p k stamp : ℕ) → x ≡ ownerOf r → p ≡ pageOf r → k ≡ numberOf r → x ≡ 0 → stamp ≡ num 4 marks (12 + 4 * p) → ltb stamp k ≡ aboveStamp marks r
-unfolding aboveStamp
+pub above-row : (marks r : List ℕ) (x p k stamp : ℕ) → x ≡ ownerOf r → p ≡ pageOf r → k ≡ numberOf r → x ≡ 0 → stamp ≡ num 4 marks (12 + 4 * p) → ltb stamp k ≡ pastStamp marks r
+unfolding pastStamp
 above-row marks r x p k stamp a b d h e = rw (← a, ← b, ← d, h, ← e)
 
 -- S7, S8, S10 and S11 row by row, and the bytes past the rows, are these clauses one by one
-pub rows-each : (tables log marks : List ℕ) (size pages last first : ℕ) (l : List (List ℕ)) (x z : Bool) → x ≡ every (rowTest tables log marks size pages last first) l → (x && z) ≡ (every (wellFormed size pages) l && every (owned tables last) l && z && every (inLog log first) l && every (aboveStamp marks) l)
+pub rows-each : (tables log marks : List ℕ) (size pages last first : ℕ) (l : List (List ℕ)) (x z : Bool) → x ≡ every (rowTest tables log marks size pages last first) l → (x && z) ≡ (every (wellFormed size pages) l && every (owningIn tables last) l && z && every (inLog log first) l && every (pastStamp marks) l)
 rows-each tables log marks size pages last first l x z e =
     let f = wellFormed size pages in
-    let o = owned tables last in
+    let o = owningIn tables last in
     let g = inLog log first in
-    let a = aboveStamp marks in
+    let a = pastStamp marks in
     ap (λ (y : Bool). y && z) (e ∙ every-both (λ r. f r && o r && g r) a l ∙ ap (λ (y : Bool). y && every a l) (every-both (λ r. f r && o r) g l ∙ ap (λ (y : Bool). y && every g l) (every-both f o l)))
     ∙ mid (every f l && every o l) (every g l) (every a l) z
   where
@@ -169,7 +163,7 @@ unfolding apart
 apart-free r q x y e f h = rw (← e, ← f, h)
 
 pub apart-row : (r q : List ℕ) (x y : ℕ) (b : Bool) → x ≡ ownerOf r → y ≡ ownerOf q → (eqb x 0 || eqb y 0 || eqb x y) ≡ false → b ≡ shareByte r q → not b ≡ apart r q
-unfolding apart
+unfolding apart free
 apart-row r q x y b e f h g = rw (← e, ← f, h, g)
 
 -- a committed row is apart from every other

@@ -1,57 +1,34 @@
 -- Laws of marks: what they say of the rows that were passed, and the turns of the loops that set them.
-use Prim.Native.Nat.{ℕ, zero, suc, _+_, _-_, _%_, _≤_, _<_}
+use Prim.Native.Nat.{ℕ, suc, _+_, _-_, _%_, _≤_, _<_}
 use native.Mathlib.Omega.{arith}
 use mathlib.Core.Path.{_≡_, refl, sym, ap, _∙_}
-use mathlib.Core.Bool.{Bool, true, false, cond, not, _&&_, _||_, Bool·beq, and-true, and-false, and-assoc, or-true, or-false}
+use mathlib.Core.Bool.{Bool, true, false, cond, not, _&&_, _||_, Bool·beq, and-true, and-false, and-assoc, or-true}
 use mathlib.Core.List.{List, [], _∷_}
 use lib.ListN.{length, getD, set, replicate, length-set, length-replicate, getD-replicate}
 use lib.Seq.{getD-set-same, getD-set-other}
 use lib.Dec.{eqb, leb, ltb}
 use borrow.Author.Tests.{ltb-true, leb-true, eqb-true, eqb-false, lt-ltb, eq-eqb, ne-eqb}
-use Rattle.word.proofs.Tests.{and-both, so, not-so}
+use Rattle.word.proofs.Tests.{and-both, so, not-so, and-swap}
 use Rattle.record.specs.Part.{part}
-use Rattle.record.specs.Rows.{rowAt, rows, any}
-use Rattle.record.specs.Record.{pageOf, ownerOf, numberOf, committed, bodyOf, onPage, wellFormed}
+use Rattle.record.specs.Rows.{rowAt, rows}
+use Rattle.record.specs.Record.{pageOf, ownerOf, numberOf, committed, bodyOf, wellFormed}
 use Rattle.record.proofs.Laws.{getD-part}
 use Rattle.rules.specs.Lent.{isDirty}
 use Rattle.rules.specs.Sound.{every, pairs, upTo, between, same, agree}
-use Rattle.onlinecheck.specs.Online.{owned, inLog, otherNumber, entryAgrees, pageBelow}
-use Rattle.onlinecheck.specs.Marks.{markPages, entryMarked, slotted, free, withNumber, allFree}
-use Rattle.onlinecheck.proofs.Rows.{and-swap, every-imp}
-use Rattle.onlinecheck.proofs.Laws.{formed-page}
-
--- S12: a page is marked if it was, or if a row is of it
-pub marked-any : (p : ℕ) (rs : List (List ℕ)) (a : List ℕ) → p < length a → eqb (getD (markPages rs a) p 0) 1 ≡ (eqb (getD a p 0) 1 || any (onPage p) rs)
-unfolding markPages any
-marked-any p [] a h = sym (or-false (eqb (getD a p 0) 1))
-marked-any p (r ∷ rs) a h = marked-any p rs (set a (pageOf r) 1) (rw length-set h) ∙ one (eqb (pageOf r) p) refl
-  where
-    one : (x : Bool) → eqb (pageOf r) p ≡ x → (eqb (getD (set a (pageOf r) 1) p 0) 1 || any (onPage p) rs) ≡ (eqb (getD a p 0) 1 || (eqb (pageOf r) p || any (onPage p) rs))
-    one true e =
-        let f : pageOf r ≡ p = eqb-true (pageOf r) p e in
-        rw (f, getD-set-same a p 1 0 h, eq-eqb p p refl) (sym (or-true (eqb (getD a p 0) 1)))
-    one false e = rw (e, getD-set-other a (pageOf r) p 1 0 (λ f. eqb-false (pageOf r) p e (sym f)))
-
-upTo-same : (b d : ℕ → Bool) (k : ℕ) → ((p : ℕ) → p < k → b p ≡ d p) → (n i : ℕ) → i + n ≤ k → upTo b n i ≡ upTo d n i
-unfolding upTo
-upTo-same b d k f zero i h = refl
-upTo-same b d k f (suc n) i h =
-    let l : i < k = omega arith in
-    let m : i + 1 + n ≤ k = omega arith in
-    rw (f i l, upTo-same b d k f n (i + 1) m)
+use Rattle.rules.specs.Shape.{pageBelow}
+use Rattle.onlinecheck.specs.Online.{owningIn, inLog, otherNumber, entryAgrees}
+use Rattle.rules.proofs.Walks.{upTo-alike}
+use Rattle.table.specs.Marks.{markPages}
+use Rattle.table.proofs.Marks.{marked-page}
+use Rattle.onlinecheck.specs.Marks.{entryMarked, slotted, unmarked, withNumber, allUnmarked}
+use Rattle.rules.proofs.Every.{every-imp}
+use Rattle.rules.proofs.Clauses.{formed-page}
 
 -- so from no marks, entries agree with marks as they do with rows
 pub marked-agree : (entries : List ℕ) (rs : List (List ℕ)) (a : List ℕ) (pages : ℕ) (x : Bool) → pages ≤ 1024 → a ≡ markPages rs (replicate 1024 0) → x ≡ upTo (entryMarked entries a) pages 0 → x ≡ upTo (entryAgrees entries rs) pages 0
 unfolding entryMarked entryAgrees
-marked-agree entries rs a pages x h e g = g ∙ upTo-same (entryMarked entries a) (entryAgrees entries rs) pages one pages 0 (omega arith)
-  where
-    one : (p : ℕ) → p < pages → agree (isDirty (getD entries p 0)) (eqb (getD a p 0) 1) ≡ agree (isDirty (getD entries p 0)) (any (onPage p) rs)
-    one p l =
-        let k : p < 1024 = omega arith in
-        let n : length {A = ℕ} (replicate 1024 0) ≡ 1024 = length-replicate {A = ℕ} 1024 0 in
-        let q : p < length {A = ℕ} (replicate 1024 0) = rw n k in
-        let f : eqb (getD a p 0) 1 ≡ any (onPage p) rs = ap (λ (x : List ℕ). eqb (getD x p 0) 1) e ∙ marked-any p rs (replicate 1024 0) q ∙ (rw (getD-replicate {A = ℕ} 1024 p 0 0 k)) in
-        rw f
+marked-agree entries rs a pages x h e g =
+    g ∙ upTo-alike (entryMarked entries a) (entryAgrees entries rs) pages 0 (λ p _ l. ap (λ (b : Bool). agree (isDirty (getD entries p 0)) b) (marked-page rs a p (omega arith) e))
 
 pub pages-within : (pages : ℕ) (l : List (List ℕ)) → pages ≤ 1024 → every (pageBelow pages) l ≡ true → every (pageBelow 1024) l ≡ true
 pages-within pages l h k = every-imp (pageBelow pages) (pageBelow 1024) (λ r e. lt-ltb (pageOf r) 1024 (omega (arith, ltb-true (pageOf r) pages e))) l k
@@ -90,11 +67,11 @@ slots-of first last n k true y z u e p q h g =
     rw (b .0, lt-ltb (k - first) 2048 m) (or-true (eqb k 0))
 slots-of first last n k false y z u e p q h g = rw (and-both y (eqb k 0) (and-both (y && eqb k 0) z h .0) .1)
 
-pub slots : (tables log : List ℕ) (first last n : ℕ) → first ≡ last - n + 1 → n ≤ last → n ≤ 2048 → (l : List (List ℕ)) → every (owned tables last) l ≡ true → every (inLog log first) l ≡ true → every (slotted first) l ≡ true
-unfolding every owned inLog
+pub slots : (tables log : List ℕ) (first last n : ℕ) → first ≡ last - n + 1 → n ≤ last → n ≤ 2048 → (l : List (List ℕ)) → every (owningIn tables last) l ≡ true → every (inLog log first) l ≡ true → every (slotted first) l ≡ true
+unfolding every owningIn inLog
 slots tables log first last n e p q [] h g = refl
 slots tables log first last n e p q (r ∷ l) h g =
-    let a = and-both (owned tables last r) (every (owned tables last) l) h in
+    let a = and-both (owningIn tables last r) (every (owningIn tables last) l) h in
     let b = and-both (inLog log first r) (every (inLog log first) l) g in
     let f : slotted first r ≡ true = slots-of first last n (numberOf r) (committed r) (leb (ownerOf r) 32) (eqb (getD tables (2 + ownerOf r) 0) 1) (same (bodyOf r) (rowAt 14 log (numberOf r - first))) e p q (a .0) (b .0) in
     rw f (slots tables log first last n e p q l (a .1) (b .1))
@@ -128,33 +105,33 @@ length-number first a r = pick (eqb (numberOf r) 0)
     pick true = refl
     pick false = length-set a (numberOf r - first) 1
 
-free-each : (first : ℕ) (a r : List ℕ) → length a ≡ 2048 → slotted first r ≡ true → (l : List (List ℕ)) → every (slotted first) l ≡ true → every (free first (withNumber first a r)) l ≡ (every (free first a) l && every (otherNumber r) l)
-unfolding every free withNumber otherNumber
+free-each : (first : ℕ) (a r : List ℕ) → length a ≡ 2048 → slotted first r ≡ true → (l : List (List ℕ)) → every (slotted first) l ≡ true → every (unmarked first (withNumber first a r)) l ≡ (every (unmarked first a) l && every (otherNumber r) l)
+unfolding every unmarked withNumber otherNumber
 free-each first a r n f [] h = refl
 free-each first a r n f (q ∷ l) h =
     let g = and-both (slotted first q) (every (slotted first) l) h in
     rw (free-one first a (numberOf r) (numberOf q) n f (g .0), free-each first a r n f l (g .1))
-    (and-swap (free first a q) (otherNumber r q) (every (free first a) l) (every (otherNumber r) l))
+    (and-swap (unmarked first a q) (otherNumber r q) (every (unmarked first a) l) (every (otherNumber r) l))
 
 -- each row free when its turn comes: free of the marks at the start, and no number twice
-free-pairs : (first : ℕ) (l : List (List ℕ)) (a : List ℕ) → length a ≡ 2048 → every (slotted first) l ≡ true → allFree first l a ≡ (every (free first a) l && pairs otherNumber l)
-unfolding every pairs allFree
+free-pairs : (first : ℕ) (l : List (List ℕ)) (a : List ℕ) → length a ≡ 2048 → every (slotted first) l ≡ true → allUnmarked first l a ≡ (every (unmarked first a) l && pairs otherNumber l)
+unfolding every pairs allUnmarked
 free-pairs first [] a n h = refl
 free-pairs first (r ∷ l) a n h =
     let g = and-both (slotted first r) (every (slotted first) l) h in
     let k : length (withNumber first a r) ≡ 2048 = length-number first a r ∙ n in
     rw (free-pairs first l (withNumber first a r) k (g .1), free-each first a r n (g .0) l (g .1))
-    (shift (free first a r) (every (free first a) l) (every (otherNumber r) l) (pairs otherNumber l))
+    (shift (unmarked first a r) (every (unmarked first a) l) (every (otherNumber r) l) (pairs otherNumber l))
   where
     shift : (x u v w : Bool) → (x && (u && v && w)) ≡ (x && u && (v && w))
     shift true u v w = and-assoc u v w
     shift false u v w = refl
 
-free-start : (first : ℕ) (l : List (List ℕ)) → every (slotted first) l ≡ true → every (free first (replicate 2048 0)) l ≡ true
-unfolding free
-free-start first l h = every-imp (slotted first) (free first (replicate 2048 0)) one l h
+free-start : (first : ℕ) (l : List (List ℕ)) → every (slotted first) l ≡ true → every (unmarked first (replicate 2048 0)) l ≡ true
+unfolding unmarked
+free-start first l h = every-imp (slotted first) (unmarked first (replicate 2048 0)) one l h
   where
-    one : (r : List ℕ) → slotted first r ≡ true → free first (replicate 2048 0) r ≡ true
+    one : (r : List ℕ) → slotted first r ≡ true → unmarked first (replicate 2048 0) r ≡ true
     one r k = go (eqb (numberOf r) 0) refl
       where
         go : (x : Bool) → eqb (numberOf r) 0 ≡ x → (eqb (numberOf r) 0 || not (eqb (getD (replicate 2048 0) (numberOf r - first) 0) 1)) ≡ true
@@ -163,29 +140,29 @@ free-start first l h = every-imp (slotted first) (free first (replicate 2048 0))
             let b = and-both (leb first (numberOf r)) (ltb (numberOf r - first) 2048) (rw e at k) in
             rw (e, getD-replicate {A = ℕ} 2048 (numberOf r - first) 0 0 (ltb-true (numberOf r - first) 2048 (b .1)))
 
-pub free-once : (first : ℕ) (l : List (List ℕ)) → every (slotted first) l ≡ true → allFree first l (replicate 2048 0) ≡ pairs otherNumber l
+pub free-once : (first : ℕ) (l : List (List ℕ)) → every (slotted first) l ≡ true → allUnmarked first l (replicate 2048 0) ≡ pairs otherNumber l
 free-once first l h = free-pairs first l (replicate 2048 0) (length-replicate {A = ℕ} 2048 0) h ∙ (rw (free-start first l h))
 
 -- the loop
-pub free-none : (first w m : ℕ) (t a : List ℕ) → allFree first (rows w (m - 0) t 0) a ≡ allFree first (rows w m t 0) a
+pub free-none : (first w m : ℕ) (t a : List ℕ) → allUnmarked first (rows w (m - 0) t 0) a ≡ allUnmarked first (rows w m t 0) a
 free-none first w m t a = let n : m - 0 ≡ m = omega arith in rw n
 
-pub free-fail : (first w m : ℕ) (t : List ℕ) (i : ℕ) (a : List ℕ) (x z : Bool) → i < m → not x ≡ true → x ≡ free first a (rowAt w t i) → allFree first (rows w (m - i) t i) a ≡ z → false ≡ z
-unfolding allFree rows
+pub free-fail : (first w m : ℕ) (t : List ℕ) (i : ℕ) (a : List ℕ) (x z : Bool) → i < m → not x ≡ true → x ≡ unmarked first a (rowAt w t i) → allUnmarked first (rows w (m - i) t i) a ≡ z → false ≡ z
+unfolding allUnmarked rows
 free-fail first w m t i a x z p h e inv =
     let n : m - i ≡ suc (m - (i + 1)) = omega arith in
     let f = not-so _ _ e h in
     rw (n, f) at inv
 
-pub free-turn : (first w m : ℕ) (t : List ℕ) (i : ℕ) (a b : List ℕ) (x z : Bool) → i < m → not x ≡ false → x ≡ free first a (rowAt w t i) → b ≡ withNumber first a (rowAt w t i) → allFree first (rows w (m - i) t i) a ≡ z → allFree first (rows w (m - (i + 1)) t (i + 1)) b ≡ z
-unfolding allFree rows
+pub free-turn : (first w m : ℕ) (t : List ℕ) (i : ℕ) (a b : List ℕ) (x z : Bool) → i < m → not x ≡ false → x ≡ unmarked first a (rowAt w t i) → b ≡ withNumber first a (rowAt w t i) → allUnmarked first (rows w (m - i) t i) a ≡ z → allUnmarked first (rows w (m - (i + 1)) t (i + 1)) b ≡ z
+unfolding allUnmarked rows
 free-turn first w m t i a b x z p h e g inv =
     let n : m - i ≡ suc (m - (i + 1)) = omega arith in
     let f = so _ _ e h in
     rw g (rw (n, f) at inv)
 
-pub free-done : (first w m : ℕ) (t : List ℕ) (i : ℕ) (a : List ℕ) (z : Bool) → m ≤ i → allFree first (rows w (m - i) t i) a ≡ z → true ≡ z
-unfolding allFree rows
+pub free-done : (first w m : ℕ) (t : List ℕ) (i : ℕ) (a : List ℕ) (z : Bool) → m ≤ i → allUnmarked first (rows w (m - i) t i) a ≡ z → true ≡ z
+unfolding allUnmarked rows
 free-done first w m t i a z p inv = let n : m - i ≡ 0 = omega arith in rw n at inv
 
 -- a row's number, taken: its place, and the marks
@@ -195,19 +172,19 @@ slot-of first r k e h f =
     let b = and-both (leb first k) (ltb (k - first) 2048) g in
     (leb-true first k (b .0), ltb-true (k - first) 2048 (b .1))
 
-pub take-none : (first : ℕ) (a r : List ℕ) (k : ℕ) → k ≡ numberOf r → k ≡ 0 → (true ≡ free first a r) × (a ≡ withNumber first a r)
-unfolding free withNumber
+pub take-none : (first : ℕ) (a r : List ℕ) (k : ℕ) → k ≡ numberOf r → k ≡ 0 → (true ≡ unmarked first a r) × (a ≡ withNumber first a r)
+unfolding unmarked withNumber
 take-none first a r k e h = (rw (← e, h), rw (← e, h))
 
-pub take-one : (first : ℕ) (a r : List ℕ) (k : ℕ) → k ≡ numberOf r → (k ≡ 0 → ⊥) → (not (eqb (getD a (k - first) 0) 1) ≡ free first a r) × (set a (k - first) 1 ≡ withNumber first a r)
-unfolding free withNumber
+pub take-one : (first : ℕ) (a r : List ℕ) (k : ℕ) → k ≡ numberOf r → (k ≡ 0 → ⊥) → (not (eqb (getD a (k - first) 0) 1) ≡ unmarked first a r) × (set a (k - first) 1 ≡ withNumber first a r)
+unfolding unmarked withNumber
 take-one first a r k e h = (rw (← e, ne-eqb k 0 h), rw (← e, ne-eqb k 0 h))
 
 -- what the clauses of the rows by themselves give to the others
-pub rows-give : (tables log : List ℕ) (size pages last n : ℕ) (l : List (List ℕ)) (x z y : Bool) → n ≤ last → n ≤ 2048 → x ≡ (every (wellFormed size pages) l && every (owned tables last) l && z && every (inLog log (last - n + 1)) l && y) → not x ≡ false → (every (pageBelow pages) l ≡ true) × (every (slotted (last - n + 1)) l ≡ true)
+pub rows-give : (tables log : List ℕ) (size pages last n : ℕ) (l : List (List ℕ)) (x z y : Bool) → n ≤ last → n ≤ 2048 → x ≡ (every (wellFormed size pages) l && every (owningIn tables last) l && z && every (inLog log (last - n + 1)) l && y) → not x ≡ false → (every (pageBelow pages) l ≡ true) × (every (slotted (last - n + 1)) l ≡ true)
 rows-give tables log size pages last n l x z y p q e h =
     let f = every (wellFormed size pages) l in
-    let o = every (owned tables last) l in
+    let o = every (owningIn tables last) l in
     let g = every (inLog log (last - n + 1)) l in
     let a = and-both (f && o && z) g (and-both (f && o && z && g) y (so _ _ e h) .0) in
     let b = and-both f o (and-both (f && o) z (a .0) .0) in

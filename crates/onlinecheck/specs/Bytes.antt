@@ -16,8 +16,8 @@ abbrev pub openOn : ℕ → List ℕ → Bool
 openOn p r = eqb (pageOf r) p && not (committed r)
 
 -- what S7 and S8 say of a row's bytes and its owner, as far as marks lean on it
-abbrev pub placed : List ℕ → Bool
-placed r = leb 1 (lengthOf r) && leb (offsetOf r + lengthOf r) 4096 && leb (ownerOf r) 32
+abbrev pub bounded : List ℕ → Bool
+bounded r = leb 1 (lengthOf r) && leb (offsetOf r + lengthOf r) 4096 && leb (ownerOf r) 32
 
 -- the rows from index j on, each followed by the one that `after` names; indices rise from `low`, and one that is no row's ends the chain
 pub data Chain (t : List ℕ) (m : ℕ) (after : List ℕ) : ℕ → ℕ → List (List ℕ) → Type 0 where

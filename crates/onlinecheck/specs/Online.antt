@@ -12,16 +12,16 @@ use Rattle.rules.specs.Lent.{isDirty}
 use Rattle.rules.specs.Sound.{every, pairs, upTo, zeros, between, same, agree, apart}
 
 -- S8: a row's owner and number, by the live set of the tables and the last number
-unfoldable pub owned : List ℕ → ℕ → List ℕ → Bool
-owned tables last r = cond (committed r) (between 1 (numberOf r) last) (leb (ownerOf r) 32 && eqb (numberOf r) 0 && eqb (getD tables (2 + ownerOf r) 0) 1)
+unfoldable pub owningIn : List ℕ → ℕ → List ℕ → Bool
+owningIn tables last r = cond (committed r) (between 1 (numberOf r) last) (leb (ownerOf r) 32 && eqb (numberOf r) 0 && eqb (getD tables (2 + ownerOf r) 0) 1)
 
 -- S10: a committed row is the log's row of its number
 unfoldable pub inLog : List ℕ → ℕ → List ℕ → Bool
 inLog log first r = not (committed r) || (leb first (numberOf r) && same (bodyOf r) (rowAt 14 log (numberOf r - first)))
 
 -- S11: a committed row's number is above its page's stamp
-unfoldable pub aboveStamp : List ℕ → List ℕ → Bool
-aboveStamp marks r = not (committed r) || ltb (num 4 marks (12 + 4 * pageOf r)) (numberOf r)
+unfoldable pub pastStamp : List ℕ → List ℕ → Bool
+pastStamp marks r = not (committed r) || ltb (num 4 marks (12 + 4 * pageOf r)) (numberOf r)
 
 -- S9: two rows have not the same nonzero number
 unfoldable pub otherNumber : List ℕ → List ℕ → Bool
@@ -33,20 +33,16 @@ entryAgrees entries rs p = agree (isDirty (getD entries p 0)) (any (onPage p) rs
 
 -- S7, S8, S10 and S11 of a row
 abbrev pub rowTest : List ℕ → List ℕ → List ℕ → ℕ → ℕ → ℕ → ℕ → List ℕ → Bool
-rowTest tables log marks size pages last first r = wellFormed size pages r && owned tables last r && inLog log first r && aboveStamp marks r
-
--- what S7 says of each row, as far as a later clause leans on it
-abbrev pub pageBelow : ℕ → List ℕ → Bool
-pageBelow pages r = ltb (pageOf r) pages
+rowTest tables log marks size pages last first r = wellFormed size pages r && owningIn tables last r && inLog log first r && pastStamp marks r
 
 -- S7, S8, S14, S10, S11, S9, S12, S13
 unfoldable pub onlineTest : List ℕ → ℕ → List ℕ → ℕ → List ℕ → List ℕ → ℕ → ℕ → ℕ → ℕ → Bool
 onlineTest online m log n marks tables size pages frames last =
     every (wellFormed size pages) (rows 19 m online 0)
-    && every (owned tables last) (rows 19 m online 0)
+    && every (owningIn tables last) (rows 19 m online 0)
     && zeros (drop (m * 19) online)
     && every (inLog log (last - n + 1)) (rows 19 m online 0)
-    && every (aboveStamp marks) (rows 19 m online 0)
+    && every (pastStamp marks) (rows 19 m online 0)
     && pairs otherNumber (rows 19 m online 0)
     && upTo (entryAgrees (part (35 + frames) pages tables) (rows 19 m online 0)) pages 0
     && pairs apart (rows 19 m online 0)

@@ -8,8 +8,8 @@ ghost use lib.ListN.{length};
 ghost use Rattle.record.specs.Rows.{rowAt, rows, keep};
 ghost use Rattle.record.specs.Record.{pageOf};
 ghost use Rattle.rules.specs.Sound.{every, pairs, upTo, apart};
-ghost use Rattle.onlinecheck.specs.Online.{pageBelow};
-ghost use Rattle.onlinecheck.specs.Bytes.{openOn, placed, Chain, Linked, Passed, headsWith, afterWith, freeByte, markBytes, freeRow, withRow, freeRows, withRows};
+ghost use Rattle.rules.specs.Shape.{pageBelow};
+ghost use Rattle.onlinecheck.specs.Bytes.{openOn, bounded, Chain, Linked, Passed, headsWith, afterWith, freeByte, markBytes, freeRow, withRow, freeRows, withRows};
 use super::few;
 
 // Row i goes in front of its page's chain, unless it is committed.
@@ -58,7 +58,7 @@ fn take_bytes(a: usize, e: usize, base: u16, mine: u16, marks: &mut [u16; 4096])
 }
 
 fn take_row(t: &[u8], i: usize, base: u16, marks: &mut [u16; 4096]) -> bool
-    requires { ⌜ (i * 19 + 19 ≤ length (now t)) × (base ≤ 65472) × (placed (rowAt 19 (now t) i) ≡ true) ⌝ }
+    requires { ⌜ (i * 19 + 19 ≤ length (now t)) × (base ≤ 65472) × (bounded (rowAt 19 (now t) i) ≡ true) ⌝ }
     ensures { λ r. ⌜ (r ≡ freeRow base (now (marks .entry)) (rowAt 19 (now (t .entry)) i)) × (r ≡ true → now (marks .exit) ≡ withRow base (now (marks .entry)) (rowAt 19 (now (t .entry)) i)) ⌝ }
 {
     let x = record::owner_of(t, i);
@@ -76,7 +76,7 @@ fn index(v: u16) -> usize
 
 // The uncommitted rows of row i's page, whose chain begins with row i.
 fn chain_apart(t: &[u8], m: usize, i: usize, after: &[u16; 512], marks: &mut [u16; 4096]) -> bool
-    requires { ⌜ (m * 19 ≤ length (now t)) × (m ≤ 512) × (i < m) × (every placed (rows 19 m (now t) 0) ≡ true) × Chain (now t) m (now after) 0 i (keep (openOn (pageOf (rowAt 19 (now t) i))) (rows 19 m (now t) 0)) ⌝ }
+    requires { ⌜ (m * 19 ≤ length (now t)) × (m ≤ 512) × (i < m) × (every bounded (rows 19 m (now t) 0) ≡ true) × Chain (now t) m (now after) 0 i (keep (openOn (pageOf (rowAt 19 (now t) i))) (rows 19 m (now t) 0)) ⌝ }
     ensures { λ r. ⌜ (r ≡ freeRows (i * 64) (now (marks .entry)) (keep (openOn (pageOf (rowAt 19 (now (t .entry)) i))) (rows 19 m (now (t .entry)) 0))) × (r ≡ true → now (marks .exit) ≡ withRows (i * 64) (now (marks .entry)) (keep (openOn (pageOf (rowAt 19 (now (t .entry)) i))) (rows 19 m (now (t .entry)) 0))) ⌝ }
 {
     let base = (i * 64) as u16;
@@ -100,7 +100,7 @@ fn row_apart(
     after: &[u16; 512],
     marks: &mut [u16; 4096],
 ) -> bool
-    requires { ⌜ (m * 19 ≤ length (now t)) × (m ≤ 512) × (i < m) × (every (pageBelow 1024) (rows 19 m (now t) 0) ≡ true) × (every placed (rows 19 m (now t) 0) ≡ true) × Linked (now t) m 0 (now heads) (now after) × Passed (now t) m i (now heads) (now marks) ⌝ }
+    requires { ⌜ (m * 19 ≤ length (now t)) × (m ≤ 512) × (i < m) × (every (pageBelow 1024) (rows 19 m (now t) 0) ≡ true) × (every bounded (rows 19 m (now t) 0) ≡ true) × Linked (now t) m 0 (now heads) (now after) × Passed (now t) m i (now heads) (now marks) ⌝ }
     ensures { λ r. ⌜ (r ≡ true → Passed (now (t .entry)) m (i + 1) (now (heads .entry)) (now (marks .exit))) × (r ≡ false → pairs apart (rows 19 m (now (t .entry)) 0) ≡ false) ⌝ }
 {
     let next = index(after[i]);
@@ -123,7 +123,7 @@ fn rows_apart(
     after: &[u16; 512],
     marks: &mut [u16; 4096],
 ) -> bool
-    requires { ⌜ (m * 19 ≤ length (now t)) × (m ≤ 512) × (every (pageBelow 1024) (rows 19 m (now t) 0) ≡ true) × (every placed (rows 19 m (now t) 0) ≡ true) × Linked (now t) m 0 (now heads) (now after) × Passed (now t) m 0 (now heads) (now marks) ⌝ }
+    requires { ⌜ (m * 19 ≤ length (now t)) × (m ≤ 512) × (every (pageBelow 1024) (rows 19 m (now t) 0) ≡ true) × (every bounded (rows 19 m (now t) 0) ≡ true) × Linked (now t) m 0 (now heads) (now after) × Passed (now t) m 0 (now heads) (now marks) ⌝ }
     ensures { λ r. ⌜ r ≡ pairs apart (rows 19 m (now (t .entry)) 0) ⌝ }
 {
     let mut i = 0;
@@ -138,7 +138,7 @@ fn rows_apart(
 
 // 512 is no row's index.
 fn by_pages(t: &[u8], m: usize) -> bool
-    requires { ⌜ (m * 19 ≤ length (now t)) × (m ≤ 512) × (every (pageBelow 1024) (rows 19 m (now t) 0) ≡ true) × (every placed (rows 19 m (now t) 0) ≡ true) ⌝ }
+    requires { ⌜ (m * 19 ≤ length (now t)) × (m ≤ 512) × (every (pageBelow 1024) (rows 19 m (now t) 0) ≡ true) × (every bounded (rows 19 m (now t) 0) ≡ true) ⌝ }
     ensures { λ r. ⌜ r ≡ pairs apart (rows 19 m (now (t .entry)) 0) ⌝ }
 {
     let mut heads = [512u16; 1024];
@@ -170,7 +170,7 @@ fn one_owner(t: &[u8], m: usize) -> bool
 
 // The rows of one owner clash with none, so chains and marks are for two owners or more, and pay once rows are many.
 pub fn all_apart(t: &[u8], m: usize) -> bool
-    requires { ⌜ (m * 19 ≤ length (now t)) × (m ≤ 512) × (every (pageBelow 1024) (rows 19 m (now t) 0) ≡ true) × (every placed (rows 19 m (now t) 0) ≡ true) ⌝ }
+    requires { ⌜ (m * 19 ≤ length (now t)) × (m ≤ 512) × (every (pageBelow 1024) (rows 19 m (now t) 0) ≡ true) × (every bounded (rows 19 m (now t) 0) ≡ true) ⌝ }
     ensures { λ r. ⌜ r ≡ pairs apart (rows 19 m (now (t .entry)) 0) ⌝ }
 {
     if one_owner(t, m) {

@@ -6,8 +6,10 @@ ghost use lib.ListN.{length};
 ghost use Rattle.record.specs.Part.{part};
 ghost use Rattle.record.specs.Rows.{rows};
 ghost use Rattle.rules.specs.Sound.{every, upTo};
-ghost use Rattle.onlinecheck.specs.Online.{entryAgrees, pageBelow};
-ghost use Rattle.onlinecheck.specs.Marks.{markPages, entryMarked};
+ghost use Rattle.rules.specs.Shape.{pageBelow};
+ghost use Rattle.onlinecheck.specs.Online.{entryAgrees};
+ghost use Rattle.table.specs.Marks.{markPages};
+ghost use Rattle.onlinecheck.specs.Marks.{entryMarked};
 
 // A mark at each row's page.
 fn mark_pages(t: &[u8], m: usize, marks: &mut [u8; 1024])

@@ -8,9 +8,10 @@ ghost use Rattle.record.specs.Part.{part};
 ghost use Rattle.record.specs.Rows.{rows};
 ghost use Rattle.record.specs.Record.{wellFormed};
 ghost use Rattle.rules.specs.Sound.{every, pairs, upTo, zeros, apart};
-ghost use Rattle.onlinecheck.specs.Online.{owned, inLog, aboveStamp, otherNumber, entryAgrees, pageBelow, onlineTest};
+ghost use Rattle.rules.specs.Shape.{pageBelow};
+ghost use Rattle.onlinecheck.specs.Online.{owningIn, inLog, pastStamp, otherNumber, entryAgrees, onlineTest};
 ghost use Rattle.onlinecheck.specs.Marks.{slotted};
-ghost use Rattle.onlinecheck.specs.Bytes.{placed};
+ghost use Rattle.onlinecheck.specs.Bytes.{bounded};
 
 mod owned; // S8
 mod logged; // S10
@@ -34,7 +35,7 @@ fn sound_rows(
     last: u64,
 ) -> bool
     requires { ⌜ (m * 19 ≤ length (now online)) × (n * 14 ≤ length (now log)) × (n ≤ last) × (last < 4294967296) × (length (now marks) ≡ 12 + 8 * pages) × (35 ≤ length (now tables)) × (8 ≤ size) ⌝ }
-    ensures { λ r. ⌜ r ≡ (every (wellFormed size pages) (rows 19 m (now (online .entry)) 0) && every (owned (now (tables .entry)) last) (rows 19 m (now (online .entry)) 0) && zeros (drop (m * 19) (now (online .entry))) && every (inLog (now (log .entry)) (last - n + 1)) (rows 19 m (now (online .entry)) 0) && every (aboveStamp (now (marks .entry))) (rows 19 m (now (online .entry)) 0)) ⌝ }
+    ensures { λ r. ⌜ r ≡ (every (wellFormed size pages) (rows 19 m (now (online .entry)) 0) && every (owningIn (now (tables .entry)) last) (rows 19 m (now (online .entry)) 0) && zeros (drop (m * 19) (now (online .entry))) && every (inLog (now (log .entry)) (last - n + 1)) (rows 19 m (now (online .entry)) 0) && every (pastStamp (now (marks .entry))) (rows 19 m (now (online .entry)) 0)) ⌝ }
 {
     if !each::all_sound(online, m, log, n, marks, tables, size, pages, last) {
         return false;
@@ -53,7 +54,7 @@ fn sound_ties(
     pages: usize,
     frames: usize,
 ) -> bool
-    requires { ⌜ (m * 19 ≤ length (now online)) × (length (now tables) ≡ 35 + frames + pages) × (pages ≤ 1024) × (every (pageBelow pages) (rows 19 m (now online) 0) ≡ true) × (every (slotted first) (rows 19 m (now online) 0) ≡ true) × (m ≤ 512) × (every placed (rows 19 m (now online) 0) ≡ true) ⌝ }
+    requires { ⌜ (m * 19 ≤ length (now online)) × (length (now tables) ≡ 35 + frames + pages) × (pages ≤ 1024) × (every (pageBelow pages) (rows 19 m (now online) 0) ≡ true) × (every (slotted first) (rows 19 m (now online) 0) ≡ true) × (m ≤ 512) × (every bounded (rows 19 m (now online) 0) ≡ true) ⌝ }
     ensures { λ r. ⌜ r ≡ (pairs otherNumber (rows 19 m (now (online .entry)) 0) && upTo (entryAgrees (part (35 + frames) pages (now (tables .entry))) (rows 19 m (now (online .entry)) 0)) pages 0 && pairs apart (rows 19 m (now (online .entry)) 0)) ⌝ }
 {
     if !once::all_once(online, m, first) {

@@ -6,12 +6,12 @@ ghost use lib.ListN.{length};
 ghost use Rattle.record.specs.Rows.{rowAt, rows};
 ghost use Rattle.rules.specs.Sound.{every, pairs};
 ghost use Rattle.onlinecheck.specs.Online.{otherNumber};
-ghost use Rattle.onlinecheck.specs.Marks.{slotted, free, withNumber, allFree};
+ghost use Rattle.onlinecheck.specs.Marks.{slotted, unmarked, withNumber, allUnmarked};
 
 // The number of row i is not marked yet, and is marked from now on.
 fn take_number(t: &[u8], i: usize, first: u64, marks: &mut [u8; 2048]) -> bool
     requires { ⌜ (i * 19 + 19 ≤ length (now t)) × (slotted first (rowAt 19 (now t) i) ≡ true) ⌝ }
-    ensures { λ r. ⌜ (r ≡ free first (now (marks .entry)) (rowAt 19 (now (t .entry)) i)) × (now (marks .exit) ≡ withNumber first (now (marks .entry)) (rowAt 19 (now (t .entry)) i)) ⌝ }
+    ensures { λ r. ⌜ (r ≡ unmarked first (now (marks .entry)) (rowAt 19 (now (t .entry)) i)) × (now (marks .exit) ≡ withNumber first (now (marks .entry)) (rowAt 19 (now (t .entry)) i)) ⌝ }
 {
     let k = record::number_of(t, i);
     if k.0 == 0 {
@@ -25,7 +25,7 @@ fn take_number(t: &[u8], i: usize, first: u64, marks: &mut [u8; 2048]) -> bool
 
 fn all_free(t: &[u8], m: usize, first: u64, marks: &mut [u8; 2048]) -> bool
     requires { ⌜ (m * 19 ≤ length (now t)) × (every (slotted first) (rows 19 m (now t) 0) ≡ true) ⌝ }
-    ensures { λ r. ⌜ r ≡ allFree first (rows 19 m (now (t .entry)) 0) (now (marks .entry)) ⌝ }
+    ensures { λ r. ⌜ r ≡ allUnmarked first (rows 19 m (now (t .entry)) 0) (now (marks .entry)) ⌝ }
 {
     let mut i = 0;
     while i < m {

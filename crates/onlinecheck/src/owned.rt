@@ -3,11 +3,11 @@ ghost use mathlib.Core.Path.{_≡_};
 ghost use Prim.Native.Nat.{_+_, _*_, _≤_};
 ghost use lib.ListN.{length};
 ghost use Rattle.record.specs.Rows.{rowAt};
-ghost use Rattle.onlinecheck.specs.Online.{owned};
+ghost use Rattle.onlinecheck.specs.Online.{owningIn};
 
 pub fn is_owned(t: &[u8], i: usize, tables: &[u8], last: u64) -> bool
     requires { ⌜ (i * 19 + 19 ≤ length (now t)) × (35 ≤ length (now tables)) ⌝ }
-    ensures { λ r. ⌜ r ≡ owned (now (tables .entry)) last (rowAt 19 (now (t .entry)) i) ⌝ }
+    ensures { λ r. ⌜ r ≡ owningIn (now (tables .entry)) last (rowAt 19 (now (t .entry)) i) ⌝ }
 {
     let x = record::owner_of(t, i);
     let k = record::number_of(t, i);

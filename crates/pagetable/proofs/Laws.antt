@@ -8,25 +8,16 @@ use lib.Dec.{eqb, leb, ltb}
 use native.Mathlib.Omega.{arith}
 use borrow.Author.Tests.{leb-true}
 use Rattle.word.specs.Word.{num}
-use Rattle.word.proofs.Tests.{and-both}
+use Rattle.word.proofs.Tests.{and-both, and-six}
 use Rattle.record.specs.Part.{part}
-use Rattle.rules.specs.Lent.{Lent, pagesOf, framesOf, roomOf}
+use Rattle.rules.specs.Lent.{Lent, pagesOf, framesOf, onlineSizeOf}
 use Rattle.rules.specs.Sound.{every, upTo, zeros, serving, times, s3-counts, s20-live, s4-entries, s5-frame-once, s6-order, s14-order-zero}
 use Rattle.pagetable.specs.Test.{usedIn, orderIn, entriesIn, tablesTest}
 
 -- the test is the six sentences, in their order
-pub tables-is : (s : Lent) → tablesTest (s .lost .tables) (pagesOf s) (framesOf s) (roomOf s) ≡ (s3-counts s && s20-live s && s4-entries s && s5-frame-once s && s6-order s && s14-order-zero s)
+pub tables-is : (s : Lent) → tablesTest (s .lost .tables) (pagesOf s) (framesOf s) (onlineSizeOf s) ≡ (s3-counts s && s20-live s && s4-entries s && s5-frame-once s && s6-order s && s14-order-zero s)
 unfolding tablesTest s3-counts s20-live s4-entries s5-frame-once s6-order s14-order-zero
 tables-is s = refl
-
-all-six : (a b c d e f : Bool) → (a && b && c && d && e && f) ≡ true → (a ≡ true) × (b ≡ true) × (c ≡ true) × (d ≡ true) × (e ≡ true) × (f ≡ true)
-all-six a b c d e f h =
-    let h₅ = and-both (a && b && c && d && e) f h in
-    let h₄ = and-both (a && b && c && d) e (h₅ .0) in
-    let h₃ = and-both (a && b && c) d (h₄ .0) in
-    let h₂ = and-both (a && b) c (h₃ .0) in
-    let h₁ = and-both a b (h₂ .0) in
-    (h₁ .0, h₁ .1, h₂ .1, h₃ .1, h₄ .1, h₅ .1)
 
 -- what callers want of it
 pub record Within (tables : List ℕ) (pages frames room : ℕ) : Type 0 where
@@ -43,7 +34,7 @@ module _ (tables : List ℕ) (pages frames room : ℕ) (t : tablesTest tables pa
   pub within : Within tables pages frames room
   unfolding tablesTest
   within =
-      let h = all-six (leb (num 2 tables 0) room && leb (usedIn tables) frames) (every (λ (b : ℕ). leb b 1) (part 3 32 tables))
+      let h = and-six (leb (num 2 tables 0) room && leb (usedIn tables) frames) (every (λ (b : ℕ). leb b 1) (part 3 32 tables))
       (every (λ (e : ℕ). leb (e / 2) frames) (entriesIn tables pages frames))
       (upTo (λ (f : ℕ). leb (serving f (entriesIn tables pages frames)) 1) frames 0)
       (every (λ (f : ℕ). ltb f frames) (orderIn tables) && upTo (λ (f : ℕ). eqb (times f (orderIn tables)) (serving f (entriesIn tables pages frames))) frames 0)

@@ -1,5 +1,5 @@
 -- Laws of the loops: a turn, a turn that refuses, and the end; of counts by key; of tests that say the same.
-use Prim.Native.Nat.{ℕ, zero, suc, _+_, _-_, _*_, _/_, _≤_, _<_}
+use Prim.Native.Nat.{ℕ, suc, _+_, _-_, _*_, _/_, _≤_, _<_}
 use native.Mathlib.Omega.{arith}
 use native.Mathlib.Numerals.{add-one}
 use mathlib.Core.Path.{_≡_, refl, sym, ap, _∙_}
@@ -13,6 +13,7 @@ use Rattle.word.specs.Word.{num}
 use Rattle.record.specs.Part.{part}
 use Rattle.record.specs.Rows.{keep, consIf}
 use Rattle.rules.specs.Sound.{every, upTo, zeros, serving, times}
+use Rattle.rules.proofs.Walks.{upTo-alike}
 use Rattle.pagetable.specs.Tally.{keyOf, count, Tallied}
 
 -- `every` from the place i on
@@ -27,38 +28,11 @@ pub every-done : (b : ℕ → Bool) (l : List ℕ) (i : ℕ) (ok : Bool) → len
 unfolding every
 every-done b l i ok h e = sym (e ∙ ap (λ (x : List ℕ). ok && every b x) (drop-of-length-le l h) ∙ and-true ok)
 
--- `upTo` from i on
-upTo-cons : (b : ℕ → Bool) (n i : ℕ) → i < n → upTo b (n - i) i ≡ (b i && upTo b (n - (i + 1)) (i + 1))
-unfolding upTo
-upTo-cons b n i h = let e : n - i ≡ suc (n - (i + 1)) = omega arith in rw e
-
-pub upTo-none : (b : ℕ → Bool) (n : ℕ) → upTo b n 0 ≡ upTo b (n - 0) 0
-upTo-none b n = let e : n - 0 ≡ n = omega arith in rw e
-
-pub upTo-pass : (b : ℕ → Bool) (n i : ℕ) → i < n → b i ≡ true → upTo b n 0 ≡ upTo b (n - i) i → upTo b n 0 ≡ upTo b (n - (i + 1)) (i + 1)
-upTo-pass b n i h p e = e ∙ upTo-cons b n i h ∙ ap (λ (x : Bool). x && upTo b (n - (i + 1)) (i + 1)) p
-
-pub upTo-fail : (b : ℕ → Bool) (n i : ℕ) → i < n → b i ≡ false → upTo b n 0 ≡ upTo b (n - i) i → false ≡ upTo b n 0
-upTo-fail b n i h p e = sym (e ∙ upTo-cons b n i h ∙ ap (λ (x : Bool). x && upTo b (n - (i + 1)) (i + 1)) p)
-
-pub upTo-done : (b : ℕ → Bool) (n i : ℕ) → n ≤ i → upTo b n 0 ≡ upTo b (n - i) i → true ≡ upTo b n 0
-unfolding upTo
-upTo-done b n i h e = let z : n - i ≡ 0 = omega arith in sym (rw z at e)
-
 -- tests that agree
 pub every-same : (a b : ℕ → Bool) → ((x : ℕ) → a x ≡ b x) → (l : List ℕ) → every a l ≡ every b l
 unfolding every
 every-same a b h [] = refl
 every-same a b h (x ∷ l) = rw (h x, every-same a b h l)
-
-pub upTo-same : (a b : ℕ → Bool) (n i : ℕ) → ((x : ℕ) → x < i + n → a x ≡ b x) → upTo a n i ≡ upTo b n i
-unfolding upTo
-upTo-same a b zero i h = refl
-upTo-same a b (suc n) i h =
-    let e : i + 1 + n ≡ i + suc n = omega arith in
-    let here : a i ≡ b i = h i (omega arith) in
-    let rest : upTo a n (i + 1) ≡ upTo b n (i + 1) = upTo-same a b n (i + 1) (λ x p. h x (rw e at p)) in
-    rw (here, rest)
 
 -- an order of numbers as another
 pub ltb-leb : (a b c d : ℕ) → (a < b → c ≤ d) → (b ≤ a → d < c) → ltb a b ≡ leb c d
@@ -173,13 +147,13 @@ slot-times o a f h t = t .slot f (omega arith) (omega arith)
 
 once-same : (es a : List ℕ) (frames : ℕ) → frames ≤ 64 → Tallied true 1 es a → upTo (λ (f : ℕ). leb (getD a (f + 1) 0) 1) frames 0 ≡ upTo (λ (f : ℕ). leb (serving f es) 1) frames 0
 once-same es a frames h t =
-    upTo-same (λ (f : ℕ). leb (getD a (f + 1) 0) 1) (λ (f : ℕ). leb (serving f es) 1) frames 0
-    (λ f p. ap (λ (x : ℕ). leb x 1) (slot-serving es a f (omega arith) t))
+    upTo-alike (λ (f : ℕ). leb (getD a (f + 1) 0) 1) (λ (f : ℕ). leb (serving f es) 1) frames 0
+    (λ f _ p. ap (λ (x : ℕ). leb x 1) (slot-serving es a f (omega arith) t))
 
 named-same : (es o a n : List ℕ) (frames : ℕ) → frames ≤ 64 → Tallied true 1 es a → Tallied false 0 o n → upTo (λ (f : ℕ). eqb (getD n f 0) (getD a (f + 1) 0)) frames 0 ≡ upTo (λ (f : ℕ). eqb (times f o) (serving f es)) frames 0
 named-same es o a n frames h t u =
-    upTo-same (λ (f : ℕ). eqb (getD n f 0) (getD a (f + 1) 0)) (λ (f : ℕ). eqb (times f o) (serving f es)) frames 0
-    (λ f p. both f (slot-times o n f (omega arith) u) (slot-serving es a f (omega arith) t))
+    upTo-alike (λ (f : ℕ). eqb (getD n f 0) (getD a (f + 1) 0)) (λ (f : ℕ). eqb (times f o) (serving f es)) frames 0
+    (λ f _ p. both f (slot-times o n f (omega arith) u) (slot-serving es a f (omega arith) t))
   where
     both : (f : ℕ) → getD n f 0 ≡ times f o → getD a (f + 1) 0 ≡ serving f es → eqb (getD n f 0) (getD a (f + 1) 0) ≡ eqb (times f o) (serving f es)
     both f x y = ap (λ (z : ℕ). eqb z (getD a (f + 1) 0)) x ∙ ap (λ (z : ℕ). eqb (times f o) z) y

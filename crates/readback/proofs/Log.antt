@@ -8,8 +8,9 @@ use mathlib.Core.List.{List, [], _++_, map}
 use lib.ListN.{length, drop, replicate, length-append, length-drop, length-map, length-replicate}
 use Rattle.record.specs.Rows.{rows, table}
 use Rattle.record.specs.Record.{bodyOf, ownedBy}
-use Rattle.table.proofs.Laws.{Wide, wide-all, wide-keep, wide-drop, wide-append, wide-bodies, length-rows, length-table, rows-table, zeros-table}
-use Rattle.rules.specs.Lent.{Lent, pagesOf, spanOf, lastOf, loggedOf, logOf, onlineOf}
+use Rattle.record.proofs.Rows.{Wide, wide-all, wide-keep, wide-drop, wide-append, wide-bodies, length-rows, length-table, rows-table, zeros-table}
+use Rattle.rules.specs.declared.Params.{Params}
+use Rattle.rules.specs.Lent.{Lent, pagesOf, logSizeOf, lastOf, loggedOf, logOf, onlineOf}
 use Rattle.rules.specs.Sound.{every, zeros, inRange}
 use Rattle.rules.specs.Steps.{owned, committing, droppedBy, closed, formatted}
 use Rattle.readback.proofs.Marks.{logged-commit, logged-close, logged-format}
@@ -34,7 +35,7 @@ module _ {w : ℕ} (size n : ℕ) {rs : List (List ℕ)} (h : Wide w rs) (e : n 
   table-length k = length-table size h (omega arith) ∙ mul-comm size w
 
 -- the log's rows, and its area
-module _ (s : Lent) (hm : length (s .durable .marks) ≡ 12 + 8 * pagesOf s) (ha : length (s .durable .log) ≡ 14 * spanOf s) (hs : loggedOf s ≤ spanOf s) where
+module _ (s : Lent) (hm : length (s .durable .marks) ≡ 12 + 8 * pagesOf s) (ha : length (s .durable .log) ≡ 14 * logSizeOf s) (hs : loggedOf s ≤ logSizeOf s) where
   log-wide : Wide 14 (logOf s)
   log-wide = wide-all 14 (loggedOf s) (s .durable .log) (omega arith)
 
@@ -54,15 +55,15 @@ module _ (s : Lent) (hm : length (s .durable .marks) ≡ 12 + 8 * pagesOf s) (ha
 
     pub log-commit : logOf (committing s x .lent) ≡ logOf s ++ map bodyOf (owned s x)
     unfolding committing
-    log-commit = table-rows (spanOf s) (loggedOf (committing s x .lent)) more-wide more-logged
+    log-commit = table-rows (logSizeOf s) (loggedOf (committing s x .lent)) more-wide more-logged
 
     pub log-zero-commit : zeros (drop (loggedOf (committing s x .lent) * 14) (committing s x .lent .durable .log)) ≡ true
     unfolding committing
-    log-zero-commit = table-zeros (spanOf s) (loggedOf (committing s x .lent)) more-wide more-logged
+    log-zero-commit = table-zeros (logSizeOf s) (loggedOf (committing s x .lent)) more-wide more-logged
 
-    pub log-length-commit : loggedOf s + length (owned s x) ≤ spanOf s → length (committing s x .lent .durable .log) ≡ length (s .durable .log)
+    pub log-length-commit : loggedOf s + length (owned s x) ≤ logSizeOf s → length (committing s x .lent .durable .log) ≡ length (s .durable .log)
     unfolding committing
-    log-length-commit k = table-length (spanOf s) (loggedOf s + length (owned s x)) more-wide more-length k ∙ sym ha
+    log-length-commit k = table-length (logSizeOf s) (loggedOf s + length (owned s x)) more-wide more-length k ∙ sym ha
 
   -- close drops the oldest records
   module _ (hl : lastOf s ≤ 4294967295) (hn : loggedOf s ≤ 4294967295) where
@@ -77,26 +78,26 @@ module _ (s : Lent) (hm : length (s .durable .marks) ≡ 12 + 8 * pagesOf s) (ha
 
     pub log-close : logOf (closed s .lent) ≡ drop (droppedBy s) (logOf s)
     unfolding closed
-    log-close = table-rows (spanOf s) (loggedOf (closed s .lent)) less-wide less-logged
+    log-close = table-rows (logSizeOf s) (loggedOf (closed s .lent)) less-wide less-logged
 
     pub log-zero-close : zeros (drop (loggedOf (closed s .lent) * 14) (closed s .lent .durable .log)) ≡ true
     unfolding closed
-    log-zero-close = table-zeros (spanOf s) (loggedOf (closed s .lent)) less-wide less-logged
+    log-zero-close = table-zeros (logSizeOf s) (loggedOf (closed s .lent)) less-wide less-logged
 
     pub log-length-close : length (closed s .lent .durable .log) ≡ length (s .durable .log)
     unfolding closed
-    log-length-close = table-length (spanOf s) (loggedOf s - droppedBy s) less-wide less-length (omega arith) ∙ sym ha
+    log-length-close = table-length (logSizeOf s) (loggedOf s - droppedBy s) less-wide less-length (omega arith) ∙ sym ha
 
 -- format leaves an empty log
-module _ (s : Lent) (size pages frames room span last : ℕ) (r : inRange size pages frames room span ≡ true) (h : length (s .durable .marks) ≡ 12 + 8 * pages) (hl : last ≤ 4294967295) where
-  pub log-format : logOf (formatted s size pages frames room span last .lent) ≡ []
+module _ (s : Lent) (g : Params) (last : ℕ) (r : inRange g ≡ true) (h : length (s .durable .marks) ≡ 12 + 8 * g .pages) (hl : last ≤ 4294967295) where
+  pub log-format : logOf (formatted s g last .lent) ≡ []
   unfolding formatted rows
-  log-format = ap (λ (n : ℕ). rows 14 n (replicate (length (s .durable .log)) 0) 0) (logged-format s size pages frames room span last r h hl)
+  log-format = ap (λ (n : ℕ). rows 14 n (replicate (length (s .durable .log)) 0) 0) (logged-format s g last r h hl)
 
-  pub log-zero-format : zeros (drop (loggedOf (formatted s size pages frames room span last .lent) * 14) (formatted s size pages frames room span last .lent .durable .log)) ≡ true
+  pub log-zero-format : zeros (drop (loggedOf (formatted s g last .lent) * 14) (formatted s g last .lent .durable .log)) ≡ true
   unfolding formatted
-  log-zero-format = zeros-left (loggedOf (formatted s size pages frames room span last .lent) * 14) (length (s .durable .log))
+  log-zero-format = zeros-left (loggedOf (formatted s g last .lent) * 14) (length (s .durable .log))
 
-  pub log-length-format : length (formatted s size pages frames room span last .lent .durable .log) ≡ length (s .durable .log)
+  pub log-length-format : length (formatted s g last .lent .durable .log) ≡ length (s .durable .log)
   unfolding formatted
   log-length-format = length-replicate (length (s .durable .log)) 0

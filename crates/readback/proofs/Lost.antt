@@ -13,11 +13,12 @@ use Rattle.record.specs.Record.{pageOf, apply, applied, onPage, ownedBy, gone, 
 use Rattle.record.proofs.Parts.{length-part, length-with, one-fits}
 use Rattle.record.proofs.Laws.{either-length}
 use Rattle.rules.proofs.Every.{every-keep}
-use Rattle.apply.proofs.Laws.{length-apply, length-applied}
+use Rattle.record.proofs.Changes.{length-apply, length-applied}
 use Rattle.order.specs.Order.{without, touched}
 use Rattle.order.proofs.Laws.{length-without}
-use Rattle.table.proofs.Laws.{Wide, none, one, keep-length, wide-keep, wide-append, wide-number, length-number, length-table, rows-table, zeros-table}
-use Rattle.rules.specs.Lent.{Lent, sizeOf, pagesOf, framesOf, roomOf, lastOf, countOf, liveOf, orderOf, entryAt, entryOf, entriesOf, onlineOf, inFrame, frameOf, isDirty, dirtyIn, pageIn, withPage}
+use Rattle.record.proofs.Rows.{Wide, none, one, keep-length, wide-keep, wide-append, wide-number, length-number, length-table, rows-table, zeros-table}
+use Rattle.rules.specs.declared.Params.{Params}
+use Rattle.rules.specs.Lent.{Lent, sizeOf, pagesOf, framesOf, onlineSizeOf, lastOf, countOf, liveOf, orderOf, entryAt, entryOf, entriesOf, onlineOf, inFrame, frameOf, isDirty, dirtyIn, pageIn, withPage}
 use Rattle.rules.specs.Sound.{zeros}
 use Rattle.rules.specs.Steps.{begun, freedOf, placeOf, freed, placed, rebuilt, fetchedEntries, fetchedPool, readTables, readStep, updateTables, updated, owned, committing, others, framesFreed, judgedAnew, aborted, evicted, fromFrame, compactedEntry, compactedOrder, unfolded, compacted, closed, enteringAll, restarted, formatted}
 use Rattle.readback.proofs.Seen.{livesOf, Areas, Reads, Whole}
@@ -64,7 +65,7 @@ module _ {s : Lent} {order lives entries : List ℕ} {online : List (List ℕ)} 
         entries-read = w .entries-read;
       }
 
-  online-lists : Lists (roomOf s) (s .lost .online) online
+  online-lists : Lists (onlineSizeOf s) (s .lost .online) online
   online-lists =
       record {
         long = w .areas .online;
@@ -75,7 +76,7 @@ module _ {s : Lent} {order lives entries : List ℕ} {online : List (List ℕ)} 
       }
 
 together : (s : Lent) (order lives entries : List ℕ) (online : List (List ℕ)) → Says (framesOf s) (pagesOf s) (s .lost .tables) (length online) order lives entries
-    → Lists (roomOf s) (s .lost .online) online → length (s .lost .pool) ≡ sizeOf s * framesOf s → Reads s order lives entries online
+    → Lists (onlineSizeOf s) (s .lost .online) online → length (s .lost .pool) ≡ sizeOf s * framesOf s → Reads s order lives entries online
 together s order lives entries online t o p =
     record {
       areas = record { tables = t .long; online = o .long; pool = p };
@@ -154,7 +155,7 @@ reads-read s p w h k q =
     (online-lists w) (length-fetched-pool s p (w .areas) k q)
 
 -- update
-module _ (s : Lent) (r : List ℕ) (w : Whole s) (long : length r ≡ 19) (room : countOf s + 1 ≤ roomOf s) (most : roomOf s ≤ 512)
+module _ (s : Lent) (r : List ℕ) (w : Whole s) (long : length r ≡ 19) (room : countOf s + 1 ≤ onlineSizeOf s) (most : onlineSizeOf s ≤ 512)
     (h : length (touched (placeOf s (pageOf r)) (orderOf s)) ≤ framesOf s) (k : placeOf s (pageOf r) < framesOf s) (q : length (rebuilt s (pageOf r)) ≡ sizeOf s) where
   appended : length (onlineOf s ++ (r ∷ [])) ≡ countOf s + 1
   appended = length-append (onlineOf s) (r ∷ []) ∙ ap (λ (n : ℕ). n + 1) (sym (w .count))
@@ -182,7 +183,7 @@ module _ (s : Lent) (r : List ℕ) (w : Whole s) (long : length r ≡ 19) (room 
       let f : ℕ = placeOf s (pageOf r) in
       let g : List ℕ = pageIn (sizeOf s) f (fetchedPool s (pageOf r)) in
       together (updated s r .lent) (touched f (orderOf s)) (livesOf s) changed-entries (onlineOf s ++ (r ∷ [])) update-says
-      (lists-table (roomOf s) (onlineOf s ++ (r ∷ [])) (wide-append (w .wide) (one long none)) (omega (arith, appended)))
+      (lists-table (onlineSizeOf s) (onlineOf s ++ (r ∷ [])) (wide-append (w .wide) (one long none)) (omega (arith, appended)))
       (page-length f (framesOf s) (sizeOf s) (fetchedPool s (pageOf r)) (apply r g) k (length-fetched-pool s (pageOf r) (w .areas) k q) (length-apply r g ∙ frame-length))
 
 -- commit
@@ -193,15 +194,15 @@ reads-committing s x w h k =
     let rs : List (List ℕ) = numberRows x (lastOf s + 1) (onlineOf s) in
     let n : length rs ≡ length (onlineOf s) = length-number x (lastOf s + 1) (onlineOf s) in
     together (committing s x .lent) (orderOf s) (set (livesOf s) (x - 1) 0) (entriesOf s) rs
-    (rw n (says-live (tables-say w) x 0 h k)) (lists-table (roomOf s) rs (wide-number x (lastOf s + 1) (w .wide)) (omega (arith, w .room))) (w .areas .pool)
+    (rw n (says-live (tables-say w) x 0 h k)) (lists-table (onlineSizeOf s) rs (wide-number x (lastOf s + 1) (w .wide)) (omega (arith, w .room))) (w .areas .pool)
 
 -- rows that are kept in the online table
 module _ (s : Lent) (b : List ℕ → Bool) (w : Whole s) where
-  kept-fit : length (keep b (onlineOf s)) ≤ roomOf s
+  kept-fit : length (keep b (onlineOf s)) ≤ onlineSizeOf s
   kept-fit = omega (arith, keep-length b (onlineOf s), w .room)
 
-  lists-kept : Lists (roomOf s) (table 19 (roomOf s) (keep b (onlineOf s))) (keep b (onlineOf s))
-  lists-kept = lists-table (roomOf s) (keep b (onlineOf s)) (wide-keep b (w .wide)) kept-fit
+  lists-kept : Lists (onlineSizeOf s) (table 19 (onlineSizeOf s) (keep b (onlineOf s))) (keep b (onlineOf s))
+  lists-kept = lists-table (onlineSizeOf s) (keep b (onlineOf s)) (wide-keep b (w .wide)) kept-fit
 
 -- an order from which frames are freed is no longer
 freed-length : (b : Bool) (f n : ℕ) (o : List ℕ) → length o ≤ n → length (cond b (without f o) o) ≤ n
@@ -224,7 +225,7 @@ compacted-length s p n h = go (fromFrame s p)
     go false = freed-length (inFrame (entryOf s p)) (frameOf (entryOf s p)) n (orderOf s) h
 
 -- abort
-pub reads-aborted : (s : Lent) (x : ℕ) → Whole s → roomOf s ≤ 512 → 1 ≤ x → x ≤ 32 → pagesBelow (pagesOf s) (onlineOf s) ≡ true
+pub reads-aborted : (s : Lent) (x : ℕ) → Whole s → onlineSizeOf s ≤ 512 → 1 ≤ x → x ≤ 32 → pagesBelow (pagesOf s) (onlineOf s) ≡ true
     → Reads (aborted s x .lent) (framesFreed (framesOf s) (s .lost .tables) (owned s x) (orderOf s)) (set (livesOf s) (x - 1) 0) (judgedEntries (others s x) (owned s x) (entriesOf s)) (others s x)
 unfolding aborted
 reads-aborted s x w most h k b =
@@ -232,7 +233,7 @@ reads-aborted s x w most h k b =
     let rest : List (List ℕ) = others s x in
     let o : List ℕ = framesFreed (framesOf s) (s .lost .tables) mine (orderOf s) in
     let q : length o ≤ framesOf s = freed-all-length (framesOf s) (framesOf s) (s .lost .tables) mine (orderOf s) (w .frames) in
-    let fit : length rest ≤ roomOf s = kept-fit s (λ (r : List ℕ). not (gone true x 0 r)) w in
+    let fit : length rest ≤ onlineSizeOf s = kept-fit s (λ (r : List ℕ). not (gone true x 0 r)) w in
     let judged : Says (framesOf s) (pagesOf s) (judgedAnew (framesOf s) rest mine (s .lost .tables)) (length (onlineOf s)) (orderOf s) (livesOf s) (judgedEntries rest mine (entriesOf s)) =
     says-judged rest mine (s .lost .tables) (orderOf s) (livesOf s) (entriesOf s) (every-keep (ownedBy x) (λ (r : List ℕ). ltb (pageOf r) (pagesOf s)) (onlineOf s) b) (tables-say w) in
     together (aborted s x .lent) o (set (livesOf s) (x - 1) 0) (judgedEntries rest mine (entriesOf s)) rest
@@ -240,12 +241,12 @@ reads-aborted s x w most h k b =
     (lists-kept s (λ (r : List ℕ). not (gone true x 0 r)) w) (w .areas .pool)
 
 -- compact
-pub reads-compacted : (s : Lent) (p : ℕ) → Whole s → roomOf s ≤ 512 → p < pagesOf s
+pub reads-compacted : (s : Lent) (p : ℕ) → Whole s → onlineSizeOf s ≤ 512 → p < pagesOf s
     → Reads (compacted s p .lent) (compactedOrder s p) (livesOf s) (set (entriesOf s) p (compactedEntry s p)) (unfolded s p)
 unfolding compacted
 reads-compacted s p w most h =
     let q : length (compactedOrder s p) ≤ framesOf s = compacted-length s p (framesOf s) (w .frames) in
-    let fit : length (unfolded s p) ≤ roomOf s = kept-fit s (λ (r : List ℕ). not (gone false 0 p r)) w in
+    let fit : length (unfolded s p) ≤ onlineSizeOf s = kept-fit s (λ (r : List ℕ). not (gone false 0 p r)) w in
     together (compacted s p .lent) (compactedOrder s p) (livesOf s) (set (entriesOf s) p (compactedEntry s p)) (unfolded s p)
     (says-count (says-order (says-entry (tables-say w) p (compactedEntry s p) h) (compactedOrder s p) q) (length (unfolded s p)) (omega arith))
     (lists-kept s (λ (r : List ℕ). not (gone false 0 p r)) w) (w .areas .pool)
@@ -256,7 +257,7 @@ unfolding closed
 reads-closed s w = together (closed s .lent) (orderOf s) (livesOf s) (entriesOf s) (onlineOf s) (tables-say w) (online-lists w) (w .areas .pool)
 
 -- restart
-pub reads-restarted : (s : Lent) → Areas s → roomOf s ≤ 512 → length (enteringAll s) ≤ roomOf s → Wide 19 (enteringAll s) → pagesBelow (pagesOf s) (enteringAll s) ≡ true
+pub reads-restarted : (s : Lent) → Areas s → onlineSizeOf s ≤ 512 → length (enteringAll s) ≤ onlineSizeOf s → Wide 19 (enteringAll s) → pagesBelow (pagesOf s) (enteringAll s) ≡ true
     → Reads (restarted s .lent) [] (replicate 32 0) (evictedEntries (enteringAll s) (replicate (pagesOf s) 0)) (enteringAll s)
 unfolding restarted
 reads-restarted s a most h v b =
@@ -265,15 +266,15 @@ reads-restarted s a most h v b =
     let z : Says (framesOf s) (pagesOf s) t 0 [] (replicate 32 0) (replicate (pagesOf s) 0) = rw (a .tables) (says-none (framesOf s) (pagesOf s)) in
     together (restarted s .lent) [] (replicate 32 0) (evictedEntries rs (replicate (pagesOf s) 0)) rs
     (says-count (says-evicted rs t [] (replicate 32 0) (replicate (pagesOf s) 0) b z) (length rs) (omega arith))
-    (lists-table (roomOf s) rs v h) (a .pool)
+    (lists-table (onlineSizeOf s) rs v h) (a .pool)
 
 -- format: what it fixed is read in the new store
-pub reads-formatted : (s : Lent) (size pages frames room span last : ℕ) → length (s .lost .tables) ≡ 35 + frames + pages → length (s .lost .online) ≡ 19 * room → length (s .lost .pool) ≡ size * frames
-    → sizeOf (formatted s size pages frames room span last .lent) ≡ size → pagesOf (formatted s size pages frames room span last .lent) ≡ pages
-    → framesOf (formatted s size pages frames room span last .lent) ≡ frames → roomOf (formatted s size pages frames room span last .lent) ≡ room
-    → Reads (formatted s size pages frames room span last .lent) [] (replicate 32 0) (replicate pages 0) []
+pub reads-formatted : (s : Lent) (g : Params) (last : ℕ) → length (s .lost .tables) ≡ 35 + g .frames + g .pages → length (s .lost .online) ≡ 19 * g .online → length (s .lost .pool) ≡ g .size * g .frames
+    → sizeOf (formatted s g last .lent) ≡ g .size → pagesOf (formatted s g last .lent) ≡ g .pages
+    → framesOf (formatted s g last .lent) ≡ g .frames → onlineSizeOf (formatted s g last .lent) ≡ g .online
+    → Reads (formatted s g last .lent) [] (replicate 32 0) (replicate (g .pages) 0) []
 unfolding formatted
-reads-formatted s size pages frames room span last t o p es ep ef er =
-    let z : Says frames pages (replicate (length (s .lost .tables)) 0) 0 [] (replicate 32 0) (replicate pages 0) = rw t (says-none frames pages) in
-    together (formatted s size pages frames room span last .lent) [] (replicate 32 0) (replicate pages 0) []
-    (rw (ef, ep) z) (rw er (lists-none (length (s .lost .online)) room o)) (rw (es, ef) p)
+reads-formatted s g last t o p es ep ef er =
+    let z : Says (g .frames) (g .pages) (replicate (length (s .lost .tables)) 0) 0 [] (replicate 32 0) (replicate (g .pages) 0) = rw t (says-none (g .frames) (g .pages)) in
+    together (formatted s g last .lent) [] (replicate 32 0) (replicate (g .pages) 0) []
+    (rw (ef, ep) z) (rw er (lists-none (length (s .lost .online)) (g .online) o)) (rw (es, ef) p)

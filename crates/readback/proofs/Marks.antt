@@ -18,13 +18,14 @@ use Rattle.record.specs.Record.{pageOf, numberOf, committed, committedOn, lesse
 use Rattle.record.proofs.Laws.{num-part}
 use Rattle.record.proofs.Parts.{length-with, getD-with-below, part-with}
 use Rattle.order.proofs.Laws.{blank-at}
-use Rattle.rules.specs.Lent.{Lent, sizeOf, pagesOf, framesOf, roomOf, spanOf, lastOf, closedOf, loggedOf, stampAt, dirtyAt, stampOf, dirtyOf, onlineOf}
+use Rattle.rules.specs.declared.Params.{Params}
+use Rattle.rules.specs.Lent.{paramsOf, Lent, sizeOf, pagesOf, framesOf, onlineSizeOf, logSizeOf, lastOf, closedOf, loggedOf, stampAt, dirtyAt, stampOf, dirtyOf, onlineOf}
 use Rattle.rules.specs.Sound.{every, inRange}
 use Rattle.rules.specs.Steps.{owned, committing, foldable, lowered, droppedBy, closed, stamped, formatted}
 use Rattle.rules.proofs.Extremes.{numberAtMost, lesser-most}
-use Rattle.closing.proofs.Laws.{length-lowered}
-use Rattle.durable.specs.Ranges.{Ranged}
-use Rattle.durable.proofs.Laws.{ranged}
+use Rattle.rules.proofs.Kept.{length-lowered}
+use Rattle.rules.specs.Shape.{Ranged}
+use Rattle.rules.proofs.Ranges.{ranged}
 
 -- a number of 4 bytes where it was put
 here : (l : List ℕ) (at v : ℕ) → at + 4 ≤ length l → v ≤ 4294967295 → num 4 (put 4 l at v) at ≡ v
@@ -277,58 +278,58 @@ module _ (pages n last : ℕ) (h : n ≡ 12 + 8 * pages) (hl : last ≤ 42949672
   made-dirty p = stamped-behind pages 0 last fresh (dirtyAt pages p) (omega arith) ∙ fresh-behind (dirtyAt pages p) (omega arith)
 
 -- format writes what it was given, each number in 4 bytes
-module _ (size pages frames room span : ℕ) (r : inRange size pages frames room span ≡ true) where
+module _ (g : Params) (r : inRange g ≡ true) where
   abbrev f₁ : List ℕ
-  f₁ = put 4 (replicate 20 0) 0 size
+  f₁ = put 4 (replicate 20 0) 0 (g .size)
 
   abbrev f₂ : List ℕ
-  f₂ = put 4 f₁ 4 pages
+  f₂ = put 4 f₁ 4 (g .pages)
 
   abbrev f₃ : List ℕ
-  f₃ = put 4 f₂ 8 frames
+  f₃ = put 4 f₂ 8 (g .frames)
 
   abbrev f₄ : List ℕ
-  f₄ = put 4 f₃ 12 room
+  f₄ = put 4 f₃ 12 (g .online)
 
   abbrev f₅ : List ℕ
-  f₅ = put 4 f₄ 16 span
+  f₅ = put 4 f₄ 16 (g .log)
 
-  within : Ranged size pages frames room span
-  within = ranged size pages frames room span r
+  within : Ranged g
+  within = ranged g r
 
   length-three : length f₃ ≡ 20
-  length-three = length-put 4 f₂ 8 frames ∙ length-put 4 f₁ 4 pages ∙ length-put 4 (replicate 20 0) 0 size
+  length-three = length-put 4 f₂ 8 (g .frames) ∙ length-put 4 f₁ 4 (g .pages) ∙ length-put 4 (replicate 20 0) 0 (g .size)
 
   length-five : length f₅ ≡ 20
-  length-five = length-put 4 f₄ 16 span ∙ length-put 4 f₃ 12 room ∙ length-three
+  length-five = length-put 4 f₄ 16 (g .log) ∙ length-put 4 f₃ 12 (g .online) ∙ length-three
 
   -- a number before the last ones
   before-five : (i : ℕ) → i + 4 ≤ 12 → num 4 f₅ i ≡ num 4 f₃ i
-  before-five i h = num-put-below 4 4 f₄ 16 span i (omega arith) ∙ num-put-below 4 4 f₃ 12 room i (omega arith)
+  before-five i h = num-put-below 4 4 f₄ 16 (g .log) i (omega arith) ∙ num-put-below 4 4 f₃ 12 (g .online) i (omega arith)
 
-  size-five : num 4 f₅ 0 ≡ size
+  size-five : num 4 f₅ 0 ≡ g .size
   size-five =
-      before-five 0 (omega arith) ∙ num-put-below 4 4 f₂ 8 frames 0 (omega arith) ∙ num-put-below 4 4 f₁ 4 pages 0 (omega arith)
-      ∙ here (replicate 20 0) 0 size (omega arith) (omega (arith, within .size-most))
+      before-five 0 (omega arith) ∙ num-put-below 4 4 f₂ 8 (g .frames) 0 (omega arith) ∙ num-put-below 4 4 f₁ 4 (g .pages) 0 (omega arith)
+      ∙ here (replicate 20 0) 0 (g .size) (omega arith) (omega (arith, within .size-most))
 
-  pages-five : num 4 f₅ 4 ≡ pages
+  pages-five : num 4 f₅ 4 ≡ g .pages
   pages-five =
-      let e : length f₁ ≡ 20 = length-put 4 (replicate 20 0) 0 size in
-      before-five 4 (omega arith) ∙ num-put-below 4 4 f₂ 8 frames 4 (omega arith) ∙ here f₁ 4 pages (omega arith) (omega (arith, within .pages-most))
+      let e : length f₁ ≡ 20 = length-put 4 (replicate 20 0) 0 (g .size) in
+      before-five 4 (omega arith) ∙ num-put-below 4 4 f₂ 8 (g .frames) 4 (omega arith) ∙ here f₁ 4 (g .pages) (omega arith) (omega (arith, within .pages-most))
 
-  frames-five : num 4 f₅ 8 ≡ frames
+  frames-five : num 4 f₅ 8 ≡ g .frames
   frames-five =
-      let e : length f₂ ≡ 20 = length-put 4 f₁ 4 pages ∙ length-put 4 (replicate 20 0) 0 size in
-      before-five 8 (omega arith) ∙ here f₂ 8 frames (omega arith) (omega (arith, within .frames-most))
+      let e : length f₂ ≡ 20 = length-put 4 f₁ 4 (g .pages) ∙ length-put 4 (replicate 20 0) 0 (g .size) in
+      before-five 8 (omega arith) ∙ here f₂ 8 (g .frames) (omega arith) (omega (arith, within .frames-most))
 
-  room-five : num 4 f₅ 12 ≡ room
-  room-five =
-      num-put-below 4 4 f₄ 16 span 12 (omega arith) ∙ here f₃ 12 room (omega (arith, length-three)) (omega (arith, within .room-most))
+  online-size-five : num 4 f₅ 12 ≡ g .online
+  online-size-five =
+      num-put-below 4 4 f₄ 16 (g .log) 12 (omega arith) ∙ here f₃ 12 (g .online) (omega (arith, length-three)) (omega (arith, within .online-most))
 
-  span-five : num 4 f₅ 16 ≡ span
-  span-five =
-      let e : length f₄ ≡ 20 = length-put 4 f₃ 12 room ∙ length-three in
-      here f₄ 16 span (omega arith) (omega (arith, within .span-most))
+  log-size-five : num 4 f₅ 16 ≡ g .log
+  log-size-five =
+      let e : length f₄ ≡ 20 = length-put 4 f₃ 12 (g .online) ∙ length-three in
+      here f₄ 16 (g .log) (omega arith) (omega (arith, within .log-most))
 
 -- the lent bytes of a step
 module _ (s : Lent) (h : length (s .durable .marks) ≡ 12 + 8 * pagesOf s) where
@@ -388,57 +389,57 @@ module _ (s : Lent) (h : length (s .durable .marks) ≡ 12 + 8 * pagesOf s) wher
     dirty-close = shut-dirty (pagesOf s) (s .durable .marks) h (onlineOf s) (lastOf s) (loggedOf s - droppedBy s) hl fewer
 
 -- format: what it was given is what is read; L, K and the stamps are the L given, the rest is 0
-module _ (s : Lent) (size pages frames room span last : ℕ) (r : inRange size pages frames room span ≡ true) where
-  pub fixed-format : length (formatted s size pages frames room span last .lent .durable .fixed) ≡ 20
+module _ (s : Lent) (g : Params) (last : ℕ) (r : inRange g ≡ true) where
+  pub fixed-format : length (formatted s g last .lent .durable .fixed) ≡ 20
   unfolding formatted
-  fixed-format = length-five size pages frames room span r
+  fixed-format = length-five g r
 
-  pub size-format : sizeOf (formatted s size pages frames room span last .lent) ≡ size
+  pub size-format : sizeOf (formatted s g last .lent) ≡ g .size
   unfolding formatted
-  size-format = size-five size pages frames room span r
+  size-format = size-five g r
 
-  pub pages-format : pagesOf (formatted s size pages frames room span last .lent) ≡ pages
+  pub pages-format : pagesOf (formatted s g last .lent) ≡ g .pages
   unfolding formatted
-  pages-format = pages-five size pages frames room span r
+  pages-format = pages-five g r
 
-  pub frames-format : framesOf (formatted s size pages frames room span last .lent) ≡ frames
+  pub frames-format : framesOf (formatted s g last .lent) ≡ g .frames
   unfolding formatted
-  frames-format = frames-five size pages frames room span r
+  frames-format = frames-five g r
 
-  pub room-format : roomOf (formatted s size pages frames room span last .lent) ≡ room
+  pub online-size-format : onlineSizeOf (formatted s g last .lent) ≡ g .online
   unfolding formatted
-  room-format = room-five size pages frames room span r
+  online-size-format = online-size-five g r
 
-  pub span-format : spanOf (formatted s size pages frames room span last .lent) ≡ span
+  pub log-size-format : logSizeOf (formatted s g last .lent) ≡ g .log
   unfolding formatted
-  span-format = span-five size pages frames room span r
+  log-size-format = log-size-five g r
 
-  pub range-format : inRange (sizeOf (formatted s size pages frames room span last .lent)) (pagesOf (formatted s size pages frames room span last .lent)) (framesOf (formatted s size pages frames room span last .lent)) (roomOf (formatted s size pages frames room span last .lent)) (spanOf (formatted s size pages frames room span last .lent)) ≡ true
-  range-format = rw (size-format, pages-format, frames-format, room-format, span-format) r
+  pub range-format : inRange (paramsOf (formatted s g last .lent)) ≡ true
+  range-format = rw (size-format, pages-format, frames-format, online-size-format, log-size-format) r
 
-  module _ (h : length (s .durable .marks) ≡ 12 + 8 * pages) (hl : last ≤ 4294967295) where
-    pub marks-format : length (formatted s size pages frames room span last .lent .durable .marks) ≡ length (s .durable .marks)
+  module _ (h : length (s .durable .marks) ≡ 12 + 8 * g .pages) (hl : last ≤ 4294967295) where
+    pub marks-format : length (formatted s g last .lent .durable .marks) ≡ length (s .durable .marks)
     unfolding formatted
-    marks-format = made-length pages (length (s .durable .marks)) last h hl
+    marks-format = made-length (g .pages) (length (s .durable .marks)) last h hl
 
-    pub last-format : lastOf (formatted s size pages frames room span last .lent) ≡ last
+    pub last-format : lastOf (formatted s g last .lent) ≡ last
     unfolding formatted
-    last-format = made-last pages (length (s .durable .marks)) last h hl
+    last-format = made-last (g .pages) (length (s .durable .marks)) last h hl
 
-    pub closed-format : closedOf (formatted s size pages frames room span last .lent) ≡ last
+    pub closed-format : closedOf (formatted s g last .lent) ≡ last
     unfolding formatted
-    closed-format = made-closed pages (length (s .durable .marks)) last h hl
+    closed-format = made-closed (g .pages) (length (s .durable .marks)) last h hl
 
-    pub logged-format : loggedOf (formatted s size pages frames room span last .lent) ≡ 0
+    pub logged-format : loggedOf (formatted s g last .lent) ≡ 0
     unfolding formatted
-    logged-format = made-logged pages (length (s .durable .marks)) last h hl
+    logged-format = made-logged (g .pages) (length (s .durable .marks)) last h hl
 
-    pub stamp-format : (p : ℕ) → p < pages → stampOf (formatted s size pages frames room span last .lent) p ≡ last
+    pub stamp-format : (p : ℕ) → p < g .pages → stampOf (formatted s g last .lent) p ≡ last
     unfolding formatted
-    stamp-format = made-stamp pages (length (s .durable .marks)) last h hl
+    stamp-format = made-stamp (g .pages) (length (s .durable .marks)) last h hl
 
-    pub dirty-format : (p : ℕ) → dirtyOf (formatted s size pages frames room span last .lent) p ≡ 0
+    pub dirty-format : (p : ℕ) → dirtyOf (formatted s g last .lent) p ≡ 0
     unfolding formatted
     dirty-format p =
-        ap (λ (n : ℕ). num 4 (stamped pages 0 last (put 4 (put 4 (replicate (length (s .durable .marks)) 0) 0 last) 4 last)) (dirtyAt n p)) pages-format
-        ∙ made-dirty pages (length (s .durable .marks)) last h hl p
+        ap (λ (n : ℕ). num 4 (stamped (g .pages) 0 last (put 4 (put 4 (replicate (length (s .durable .marks)) 0) 0 last) 4 last)) (dirtyAt n p)) pages-format
+        ∙ made-dirty (g .pages) (length (s .durable .marks)) last h hl p

@@ -1,7 +1,7 @@
 -- A record: page, offset, length, kind and value, as a row of bytes; what applying it to a page means.
 -- A log row is the 14 bytes of the record. An online row has 5 more: owner and number.
 use Prim.Native.Nat.{ℕ, _+_, _%_, _^_, min, max}
-use mathlib.Core.Bool.{Bool, true, false, cond, _&&_, _||_}
+use mathlib.Core.Bool.{Bool, true, false, cond, not, _&&_, _||_}
 use mathlib.Core.List.{List, [], _∷_, _++_}
 use lib.ListN.{length, getD, take, set, replicate}
 use lib.Dec.{eqb, leb, ltb}
@@ -119,6 +119,14 @@ unfoldable pub greatest : ℕ → List (List ℕ) → ℕ
 greatest a [] = a
 greatest a (r ∷ rs) = greatest (max a (numberOf r)) rs
 
--- two records share a byte: the same page, and neither ends before the other starts
+-- a record has one of the w bytes of page p from an offset on: neither ends before the other starts
+abbrev pub overlaps : ℕ → ℕ → ℕ → List ℕ → Bool
+overlaps p offset w r = eqb (pageOf r) p && ltb (offsetOf r) (offset + w) && ltb offset (offsetOf r + lengthOf r)
+
+-- two records share a byte
 unfoldable pub shareByte : List ℕ → List ℕ → Bool
-shareByte a b = eqb (pageOf a) (pageOf b) && ltb (offsetOf a) (offsetOf b + lengthOf b) && ltb (offsetOf b) (offsetOf a + lengthOf a)
+shareByte a b = overlaps (pageOf b) (offsetOf b) (lengthOf b) a
+
+-- two records are free of each other: they may be applied in either order
+unfoldable pub free : List ℕ → List ℕ → Bool
+free a b = not (shareByte a b)

@@ -13,7 +13,7 @@ use borrow.Author.Tests.{leb-true, leb-false}
 use Rattle.word.specs.Word.{num, put}
 use Rattle.word.proofs.Puts.{getD-put-below, getD-put-above}
 use Rattle.record.specs.Record.{changed, change}
-use Rattle.apply.proofs.Laws.{room-both}
+use Rattle.record.proofs.Changes.{room-both}
 
 -- a place is outside the n bytes from a on
 abbrev pub Outside : ℕ → ℕ → ℕ → Type 0

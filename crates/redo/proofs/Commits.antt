@@ -11,10 +11,9 @@ use lib.Dec.{eqb}
 use borrow.Author.Tests.{eqb-true, not-true}
 use Rattle.word.proofs.Tests.{and-both}
 use Rattle.record.specs.Rows.{keep, consIf}
-use Rattle.record.specs.Record.{ownerOf, committed, ownedBy, bodyOf, numbered, entered, numberRows}
-use Rattle.table.proofs.Laws.{Wide, none, one}
+use Rattle.record.specs.Record.{ownerOf, committed, ownedBy, bodyOf, numbered, entered, numberRows, free}
+use Rattle.record.proofs.Rows.{Wide, none, one}
 use Rattle.rules.specs.Sound.{every, pairs, apart}
-use Rattle.redo.proofs.Order.{free}
 use Rattle.redo.proofs.View.{body-free, entered-body}
 use Rattle.redo.proofs.Loose.{loose, make-loose, _≅_, still, exchange, under, then, numberedFrom, ≅-equal, ≅-after, owned-open}
 use Rattle.redo.proofs.Numbered.{entered-committed, numbered-committed, numbered-entered, every-not-owned}
@@ -29,7 +28,7 @@ unfolding every
 
 -- uncommitted rows of two owners are free of each other
 apart-free : (a b : List ℕ) → apart a b ≡ true → committed a ≡ false → committed b ≡ false → eqb (ownerOf a) (ownerOf b) ≡ false → free a b ≡ true
-unfolding apart free
+unfolding apart
 apart-free a b h p q e = rw (p, q, e) at h
 
 -- a row of another owner is loose of those that a commit numbers

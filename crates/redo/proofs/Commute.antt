@@ -10,7 +10,7 @@ use lib.Seq.{ext-getD}
 use lib.Dec.{ltb, leb}
 use borrow.Author.Tests.{ltb-true, ltb-false, leb-true, leb-false, eq-eqb}
 use Rattle.record.specs.Record.{pageOf, offsetOf, lengthOf, kindOf, valueOf, change, apply, shareByte}
-use Rattle.apply.proofs.Laws.{length-change}
+use Rattle.record.proofs.Changes.{length-change}
 use Rattle.redo.proofs.Bytes.{Outside, Agree, change-outside, change-inside}
 
 -- two ranges share no byte: one ends before the other starts

@@ -9,10 +9,10 @@ use lib.ListN.{length}
 use borrow.Author.Tests.{eqb-true, ne-eqb}
 use Rattle.word.proofs.Tests.{and-both}
 use Rattle.record.specs.Rows.{keep, consIf, any}
-use Rattle.record.specs.Record.{ownerOf, committed, ownedBy, entered, numbered, numberRows}
-use Rattle.table.proofs.Laws.{Wide, one}
+use Rattle.record.specs.Record.{ownerOf, committed, ownedBy, entered, numbered, numberRows, free}
+use Rattle.record.proofs.Rows.{Wide, one}
 use Rattle.rules.specs.Sound.{every, pairs}
-use Rattle.redo.proofs.Order.{free, free-sym, _≈_, as-is, swap, behind, both}
+use Rattle.redo.proofs.Order.{free-sym, _≈_, as-is, swap, behind, both}
 use Rattle.redo.proofs.View.{body-free, numbered-body}
 
 unfoldable pub loose : List ℕ → List ℕ → Bool

@@ -1,26 +1,23 @@
--- Rows by their fields: a row that update writes, one that commit numbers, one that restart enters from the log. Commit and restart make the same row,
+-- Rows by their fields: one that commit numbers, one that restart enters from the log. Commit and restart make the same row,
 -- so the online table and the log speak of the same records. Lists of such rows: their width, their numbers.
-use Prim.Native.Nat.{ℕ, suc, _+_, _^_, _≤_, _<_}
+use Prim.Native.Nat.{ℕ, suc, _+_, _≤_, _<_}
 use native.Mathlib.Omega.{arith}
-use native.Mathlib.Nat.{pow-le-pow-right, lt-of-lt-of-le}
 use mathlib.Core.Path.{_≡_, refl, sym, ap, _∙_}
 use mathlib.Core.Logic.{inl}
 use mathlib.Core.Bool.{Bool, true, false, not, _&&_, Bool·not-not}
 use mathlib.Core.List.{List, [], _∷_, _++_}
-use lib.ListN.{length, getD, set, replicate, length-append, length-set, length-replicate, List·getD-append}
-use lib.Seq.{getD-set-same, getD-set-other, ext-getD, take-at, getD-at, length-take-le}
+use lib.ListN.{length, getD, set, replicate, length-append, length-set, List·getD-append}
+use lib.Seq.{ext-getD, take-at, getD-at, length-take-le}
 use lib.Dec.{leb, ltb}
 use borrow.Author.Tests.{eqb-true, eq-eqb, ne-eqb, leb-true, ltb-true, ltb-false, lt-ltb, le-leb}
-use Rattle.word.specs.Word.{num, put}
-use Rattle.word.proofs.Laws.{length-put}
-use Rattle.word.proofs.Puts.{getD-put-below, getD-put-above, num-put, num-put-below, take-put}
+use Rattle.word.proofs.Puts.{getD-put-below, num-put, take-put}
 use Rattle.word.proofs.Tests.{and-both}
 use Rattle.record.specs.Rows.{keep}
-use Rattle.record.specs.Record.{pageOf, offsetOf, lengthOf, kindOf, valueOf, ownerOf, numberOf, committed, ownedBy, bodyOf, wellFormed, rowOf, numbered, entered}
+use Rattle.record.specs.Record.{pageOf, offsetOf, lengthOf, kindOf, valueOf, ownerOf, numberOf, committed, ownedBy, bodyOf, wellFormed, numbered, entered}
 use Rattle.record.proofs.Laws.{numbered-owner}
-use Rattle.table.proofs.Laws.{Wide, none, one, length-numbered, length-entered}
+use Rattle.record.proofs.Rows.{Wide, none, one, length-numbered, length-entered}
 use Rattle.rules.specs.Sound.{every, pairs}
-use Rattle.onlinecheck.proofs.Rows.{every-imp}
+use Rattle.rules.proofs.Every.{every-imp}
 use Rattle.redo.proofs.Bytes.{Agree, num-agree, put-outside, put-inside}
 use Rattle.redo.proofs.View.{SameBody, body-page, body-offset, body-length, numbered-body, entered-body}
 use Rattle.redo.proofs.Views.{keep-all, keep-none}
@@ -114,80 +111,6 @@ numbered-entered r k h = ext-getD 0 (numbered r k) (entered (bodyOf r) k) (lengt
             let q : i ≡ 14 = omega (arith, ltb-false i 14 e, ltb-true i 15 f) in
             rw q (numbered-owner r k h ∙ sym (entered-owner (bodyOf r) k n))
         go false false e f = behind i (ltb-false i 15 f) (omega (arith, length-numbered r k))
-
--- the row that update writes: its fields, and that it has no number
-module _ (page offset w kind v owner : ℕ) where
-  abbrev z₀ : List ℕ
-  z₀ = replicate 19 0
-
-  abbrev z₁ : List ℕ
-  z₁ = put 2 z₀ 0 page
-
-  abbrev z₂ : List ℕ
-  z₂ = put 2 z₁ 2 offset
-
-  abbrev z₃ : List ℕ
-  z₃ = set z₂ 4 w
-
-  abbrev z₄ : List ℕ
-  z₄ = set z₃ 5 kind
-
-  abbrev z₅ : List ℕ
-  z₅ = put 8 z₄ 6 v
-
-  length-z₁ : length z₁ ≡ 19
-  length-z₁ = length-put 2 z₀ 0 page ∙ length-replicate {A = ℕ} 19 0
-
-  length-z₂ : length z₂ ≡ 19
-  length-z₂ = length-put 2 z₁ 2 offset ∙ length-z₁
-
-  length-z₄ : length z₄ ≡ 19
-  length-z₄ = length-set z₃ 5 kind ∙ length-set z₂ 4 w ∙ length-z₂
-
-  -- the bytes but the owner; those of page and offset; those behind the owner
-  last-byte : (i : ℕ) → (i ≡ 14 → ⊥) → getD (rowOf page offset w kind v owner) i 0 ≡ getD z₅ i 0
-  unfolding rowOf
-  last-byte i n = getD-set-other z₅ 14 i owner 0 n
-
-  low-byte : (i : ℕ) → i < 4 → getD (rowOf page offset w kind v owner) i 0 ≡ getD z₂ i 0
-  low-byte i h =
-      last-byte i (λ e. omega arith) ∙ getD-put-below 8 z₄ 6 v i (omega arith) ∙ getD-set-other z₃ 5 i kind 0 (λ e. omega arith) ∙ getD-set-other z₂ 4 i w 0 (λ e. omega arith)
-
-  high-byte : (i : ℕ) → 15 ≤ i → getD (rowOf page offset w kind v owner) i 0 ≡ getD z₀ i 0
-  high-byte i h =
-      last-byte i (λ e. omega arith) ∙ getD-put-above 8 z₄ 6 v i (omega arith) ∙ getD-set-other z₃ 5 i kind 0 (λ e. omega arith) ∙ getD-set-other z₂ 4 i w 0 (λ e. omega arith)
-      ∙ getD-put-above 2 z₁ 2 offset i (omega arith) ∙ getD-put-above 2 z₀ 0 page i (omega arith)
-
-  pub row-page : page < 65536 → pageOf (rowOf page offset w kind v owner) ≡ page
-  row-page h =
-      num-agree 2 (rowOf page offset w kind v owner) z₂ 0 (λ i p q. low-byte i (omega arith)) ∙ num-put-below 2 2 z₁ 2 offset 0 (omega arith)
-      ∙ num-put 2 z₀ 0 page (omega (arith, length-replicate {A = ℕ} 19 0)) h
-
-  pub row-offset : offset < 65536 → offsetOf (rowOf page offset w kind v owner) ≡ offset
-  row-offset h =
-      num-agree 2 (rowOf page offset w kind v owner) z₂ 2 (λ i p q. low-byte i (omega arith)) ∙ num-put 2 z₁ 2 offset (omega (arith, length-z₁)) h
-
-  pub row-length : lengthOf (rowOf page offset w kind v owner) ≡ w
-  row-length =
-      last-byte 4 (λ e. omega arith) ∙ getD-put-below 8 z₄ 6 v 4 (omega arith) ∙ getD-set-other z₃ 5 4 kind 0 (λ e. omega arith) ∙ getD-set-same z₂ 4 w 0 (omega (arith, length-z₂))
-
-  pub row-kind : kindOf (rowOf page offset w kind v owner) ≡ kind
-  row-kind =
-      last-byte 5 (λ e. omega arith) ∙ getD-put-below 8 z₄ 6 v 5 (omega arith) ∙ getD-set-same z₃ 5 kind 0 (omega (arith, length-set z₂ 4 w, length-z₂))
-
-  -- "a value below 256 to the power of the length": one of at most eight bytes
-  pub row-value : (n : ℕ) → n ≤ 8 → v < 256 ^ n → valueOf (rowOf page offset w kind v owner) ≡ v
-  row-value n m h =
-      num-agree 8 (rowOf page offset w kind v owner) z₅ 6 (λ i p q. last-byte i (λ e. omega arith))
-      ∙ num-put 8 z₄ 6 v (omega (arith, length-z₄)) (lt-of-lt-of-le h (pow-le-pow-right {n = 256} (omega arith) {i = n} {j = 8} m))
-
-  pub row-owner : ownerOf (rowOf page offset w kind v owner) ≡ owner
-  unfolding rowOf
-  row-owner = getD-set-same z₅ 14 owner 0 (omega (arith, length-put 8 z₄ 6 v, length-z₄))
-
-  pub row-number : numberOf (rowOf page offset w kind v owner) ≡ 0
-  unfolding num
-  row-number = num-agree 4 (rowOf page offset w kind v owner) z₀ 15 (λ i p q. high-byte i p)
 
 -- committed rows: no test for uncommitted ones picks any of them
 pub keep-open-none : (a : List (List ℕ)) → every committed a ≡ true → keep (λ (r : List ℕ). not (committed r)) a ≡ []

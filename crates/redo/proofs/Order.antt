@@ -8,16 +8,11 @@ use lib.Dec.{eqb, ltb}
 use borrow.Author.Tests.{eqb-true, eqb-false, eq-eqb, ne-eqb, not-true}
 use Rattle.word.proofs.Tests.{and-both}
 use Rattle.record.specs.Rows.{keep, consIf}
-use Rattle.record.specs.Record.{pageOf, offsetOf, lengthOf, apply, applied, shareByte}
-use Rattle.rules.proofs.Every.{every-kept-where}
-use Rattle.apply.proofs.Laws.{applied-keep}
+use Rattle.record.specs.Record.{pageOf, offsetOf, lengthOf, apply, applied, shareByte, free}
+use Rattle.rules.proofs.Every.{every-kept-where, every-imp}
+use Rattle.record.proofs.Changes.{applied-keep}
 use Rattle.rules.specs.Sound.{every, pairs}
-use Rattle.onlinecheck.proofs.Rows.{every-imp}
 use Rattle.redo.proofs.Commute.{apply-commutes}
-
--- two records that may be applied in either order: on different pages, or on one with no byte in common
-unfoldable pub free : List ℕ → List ℕ → Bool
-free a b = not (shareByte a b)
 
 eqb-sym : (a b : ℕ) → eqb a b ≡ eqb b a
 eqb-sym a b = go (eqb a b) refl

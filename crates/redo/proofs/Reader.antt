@@ -13,17 +13,16 @@ use Rattle.word.specs.Word.{num}
 use Rattle.word.proofs.Tests.{and-both}
 use Rattle.record.specs.Part.{part}
 use Rattle.record.specs.Rows.{keep, any}
-use Rattle.record.specs.Record.{pageOf, offsetOf, lengthOf, kindOf, valueOf, ownerOf, numberOf, committed, apply, applied, onPage, committedOn, ownedBy, shareByte}
+use Rattle.record.specs.Record.{pageOf, offsetOf, lengthOf, kindOf, valueOf, ownerOf, numberOf, committed, apply, applied, onPage, committedOn, ownedBy, free}
 use Rattle.record.proofs.Parts.{length-part}
-use Rattle.rules.proofs.Every.{every-kept-where}
-use Rattle.apply.proofs.Laws.{length-applied}
+use Rattle.rules.proofs.Every.{every-kept-where, every-imp}
+use Rattle.record.proofs.Changes.{length-applied}
 use Rattle.rules.specs.Lent.{stampAt}
 use Rattle.rules.specs.Sound.{every, pairs, apart}
 use Rattle.rules.specs.Calls.{clashes}
-use Rattle.onlinecheck.proofs.Rows.{every-imp}
 use Rattle.redo.proofs.Bytes.{Agree, change-outside}
 use Rattle.redo.proofs.Commute.{Disjoint, ranges, disjoint-outside}
-use Rattle.redo.proofs.Order.{_≈_, as-is, swap, behind, both, free, parts, ≈-picked, stable-partition}
+use Rattle.redo.proofs.Order.{_≈_, as-is, swap, behind, both, parts, ≈-picked, stable-partition}
 use Rattle.redo.proofs.View.{applied-append, keep-append}
 use Rattle.redo.proofs.Loose.{or-swap}
 use Rattle.redo.proofs.Views.{keep-same, keep-both, keep-same-where, keep-none, rising, page-up-to, stored-then-online}
@@ -92,7 +91,7 @@ clear-misses : (x p offset w : ℕ) (r : List ℕ) → (onPage p r && not (owned
 unfolding clashes misses
 clear-misses x p offset w r h k m = go (not (committed r)) (not (ownedBy x r)) (onPage p r) (ltb (offsetOf r) (offset + w)) (ltb offset (offsetOf r + lengthOf r)) h k m
   where
-    go : (a b c s t : Bool) → (c && b) ≡ true → a ≡ true → not (a && b && c && s && t) ≡ true → not (s && t) ≡ true
+    go : (a b c s t : Bool) → (c && b) ≡ true → a ≡ true → not (a && b && (c && s && t)) ≡ true → not (s && t) ≡ true
     go true true true s t e f i = i
     go a false true s t e f i = let z : _≡_ {A = ℕ} 0 1 = cc in absurd (omega arith)
     go a b false s t e f i = let z : _≡_ {A = ℕ} 0 1 = cc in absurd (omega arith)
@@ -100,13 +99,13 @@ clear-misses x p offset w r h k m = go (not (committed r)) (not (ownedBy x r)) (
 
 -- uncommitted records that are apart may be put in order of their owners, one owner's first
 pub apart-parts : (x : ℕ) (o : List (List ℕ)) → every (λ (r : List ℕ). not (committed r)) o ≡ true → pairs apart o ≡ true → pairs (parts (ownedBy x)) o ≡ true
-unfolding apart free
+unfolding apart
 apart-parts x o h k = pairs-where (λ (r : List ℕ). not (committed r)) apart (parts (ownedBy x)) two o h k
   where
     two : (a b : List ℕ) → not (committed a) ≡ true → not (committed b) ≡ true → apart a b ≡ true → parts (ownedBy x) a b ≡ true
     two a b s t e = go (committed a) (committed b) (ownedBy x a) (ownedBy x b) refl refl s t e
       where
-        go : (c d i j : Bool) → ownedBy x a ≡ i → ownedBy x b ≡ j → not c ≡ true → not d ≡ true → (c || d || eqb (ownerOf a) (ownerOf b) || not (shareByte a b)) ≡ true → (i || not j || not (shareByte a b)) ≡ true
+        go : (c d i j : Bool) → ownedBy x a ≡ i → ownedBy x b ≡ j → not c ≡ true → not d ≡ true → (c || d || eqb (ownerOf a) (ownerOf b) || free a b) ≡ true → (i || not j || free a b) ≡ true
         go c d true j u v y z f = refl
         go c d false false u v y z f = refl
         go true d false true u v y z f = let q : _≡_ {A = ℕ} 0 1 = cc in absurd (omega arith)

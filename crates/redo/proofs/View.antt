@@ -10,9 +10,8 @@ use lib.ListN.{length, getD, take, set, replicate, List·getD-append}
 use lib.Seq.{getD-set-other, getD-take, length-take-le}
 use Rattle.word.specs.Word.{num}
 use Rattle.record.specs.Rows.{keep, consIf}
-use Rattle.record.specs.Record.{pageOf, offsetOf, lengthOf, kindOf, valueOf, ownedBy, bodyOf, onPage, change, apply, applied, numbered, entered, numberRows, shareByte}
+use Rattle.record.specs.Record.{pageOf, offsetOf, lengthOf, kindOf, valueOf, ownedBy, bodyOf, onPage, change, apply, applied, numbered, entered, numberRows, shareByte, free}
 use Rattle.redo.proofs.Bytes.{Agree, num-agree, put-outside}
-use Rattle.redo.proofs.Order.{free}
 
 -- one list of records after another
 pub applied-append : (l m : List (List ℕ)) (g : List ℕ) → applied (l ++ m) g ≡ applied m (applied l g)

@@ -13,7 +13,7 @@ use Rattle.record.specs.Record.{pageOf, entered, wellFormed}
 use Rattle.rules.specs.Lent.{Lent, sizeOf, pagesOf, loggedOf, logOf, firstOf, stampAt, dirtyAt}
 use Rattle.rules.specs.Sound.{every}
 use Rattle.rules.specs.Steps.{entering, enteringAll}
-use Rattle.table.proofs.Laws.{rows-more, rows-end, rows-start}
+use Rattle.record.proofs.Rows.{rows-more, rows-end, rows-start}
 use Rattle.restart.specs.Enter.{entersBy, enteringBy, firstBy, allBy, Logged, Readable, Restartable}
 
 -- `enters_row`: a row above the checkpoint number goes by its page's stamp, another by the dirty number too

@@ -12,9 +12,9 @@ use Rattle.record.specs.Rows.{rowAt, rows, joined, table}
 use Rattle.record.specs.Record.{pageOf, entered}
 use Rattle.record.proofs.Parts.{with-take, with-drop, with-length}
 use Rattle.record.proofs.Laws.{drop-zeros}
-use Rattle.rules.specs.Lent.{Lent, entryAt, framesOf, roomOf}
+use Rattle.rules.specs.Lent.{Lent, entryAt, framesOf, onlineSizeOf}
 use Rattle.rules.specs.Steps.{lostNow, enteringAll, evictedAll, restarted}
-use Rattle.table.proofs.Laws.{joined-cons, row-length, length-entered}
+use Rattle.record.proofs.Rows.{joined-cons, row-width, length-entered}
 use Rattle.restart.specs.Enter.{entersBy, enteringBy, firstBy, allBy, Readable, Restarts}
 use Rattle.restart.proofs.Laws.{rest, rest-start, rest-yes, rest-no, rest-end, all-read, all-by, readable}
 
@@ -88,7 +88,7 @@ module _ (marks : List ℕ) (pages first n : ℕ) (log : List ℕ) where
         let h : m * 19 + 19 ≤ length o = enter-room fit e in
         let b : (m + 1) * 19 ≡ m * 19 + 19 = omega arith in
         let q : rest marks pages first n log i ≡ y ∷ rs = rest-yes marks pages first n log i true lt (sym e) refl in
-        let ly : length y ≡ 19 = length-entered r (first + i) (row-length 14 log i (omega arith)) in
+        let ly : length y ≡ 19 = length-entered r (first + i) (row-width 14 log i (omega arith)) in
         let w : List ℕ = withPart (m * 19) 19 o y in
         record {
           within = omega arith;
@@ -186,10 +186,10 @@ unfolding restarted table
 restart-made s t o t₁ o₁ (sized, span, last, well, few) et eo pt po =
     let a : List (List ℕ) = allBy (s .durable .fixed) (s .durable .marks) (s .durable .log) in
     let q : a ≡ enteringAll s = sym (all-by s) in
-    let k : length (s .lost .online) - length (enteringAll s) * 19 ≡ (roomOf s - length (enteringAll s)) * 19 = omega (arith, sized .online) in
+    let k : length (s .lost .online) - length (enteringAll s) * 19 ≡ (onlineSizeOf s - length (enteringAll s)) * 19 = omega (arith, sized .online) in
     let ht : t₁ ≡ put 2 (evictedAll (framesOf s) (enteringAll s) (replicate (length (s .lost .tables)) 0)) 0 (length (enteringAll s)) =
     pt ∙ ap (λ (l : List ℕ). put 2 (evictedAll (framesOf s) a l) 0 (length a)) et ∙ ap (λ (l : List (List ℕ)). put 2 (evictedAll (framesOf s) l (replicate (length (s .lost .tables)) 0)) 0 (length l)) q in
-    let ho : o₁ ≡ joined (enteringAll s) ++ replicate ((roomOf s - length (enteringAll s)) * 19) 0 =
+    let ho : o₁ ≡ joined (enteringAll s) ++ replicate ((onlineSizeOf s - length (enteringAll s)) * 19) 0 =
     po ∙ ap (λ (l : List ℕ). joined a ++ drop (length a * 19) l) eo ∙ ap (λ (l : List (List ℕ)). joined l ++ drop (length l * 19) (replicate (length (s .lost .online)) 0)) q
     ∙ ap (λ (l : List ℕ). joined (enteringAll s) ++ l) (drop-zeros (length (s .lost .online)) (length (enteringAll s) * 19) ∙ ap (λ (n : ℕ). replicate n 0) k) in
     ap (λ (l : List ℕ). lostNow s l o₁ (s .lost .pool)) ht

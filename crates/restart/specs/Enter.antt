@@ -8,7 +8,7 @@ use lib.Dec.{eqb, leb}
 use Rattle.word.specs.Word.{num}
 use Rattle.record.specs.Rows.{rowAt, rows, consIf}
 use Rattle.record.specs.Record.{pageOf, entered, wellFormed}
-use Rattle.rules.specs.Lent.{Lent, stampAt, dirtyAt, sizeOf, pagesOf, roomOf, spanOf, lastOf, loggedOf, logOf}
+use Rattle.rules.specs.Lent.{Lent, stampAt, dirtyAt, sizeOf, pagesOf, onlineSizeOf, logSizeOf, lastOf, loggedOf, logOf}
 use Rattle.rules.specs.Sound.{every}
 use Rattle.rules.specs.Shape.{Sized}
 use Rattle.rules.specs.Steps.{enteringAll}
@@ -45,10 +45,10 @@ pub record Readable (fixed marks log : List ℕ) : Type 0 where
 
 -- what restart asks of the durable part: soundness gives it
 abbrev pub Restartable : Lent → Type 0
-Restartable s = Sized s × (loggedOf s ≤ spanOf s) × (loggedOf s ≤ lastOf s) × (every (wellFormed (sizeOf s) (pagesOf s)) (logOf s) ≡ true)
+Restartable s = Sized s × (loggedOf s ≤ logSizeOf s) × (loggedOf s ≤ lastOf s) × (every (wellFormed (sizeOf s) (pagesOf s)) (logOf s) ≡ true)
 
 -- and room for the rows that enter
 abbrev pub Restarts : Lent → Type 0
 Restarts s =
-    Sized s × (loggedOf s ≤ spanOf s) × (loggedOf s ≤ lastOf s) × (every (wellFormed (sizeOf s) (pagesOf s)) (logOf s) ≡ true)
-    × (length (enteringAll s) ≤ roomOf s)
+    Sized s × (loggedOf s ≤ logSizeOf s) × (loggedOf s ≤ lastOf s) × (every (wellFormed (sizeOf s) (pagesOf s)) (logOf s) ≡ true)
+    × (length (enteringAll s) ≤ onlineSizeOf s)

@@ -8,7 +8,8 @@ ghost use Rattle.word.specs.Word.{num, put};
 ghost use Rattle.record.specs.Part.{withPart};
 ghost use Rattle.record.specs.Rows.{rowAt, rows, joined};
 ghost use Rattle.record.specs.Record.{pageOf, entered};
-ghost use Rattle.rules.specs.Lent.{lentOf, entryAt};
+ghost use Rattle.rules.specs.Lent.{entryAt};
+ghost use Rattle.rules.specs.Areas.{areas, before, after};
 ghost use Rattle.rules.specs.Steps.{enteringAll, evictedAll, restarted};
 ghost use Rattle.restart.specs.Enter.{entersBy, enteringBy, firstBy, allBy, Logged, Readable, Restartable, Restarts};
 use number::LogNo;
@@ -77,8 +78,8 @@ pub fn count_entering(
     online: &[u8],
     pool: &[u8],
 ) -> usize
-    requires { ⌜ Restartable (lentOf (now fixed) (now marks) (now log) (now stored) (now tables) (now online) (now pool)) ⌝ }
-    ensures { λ r. ⌜ r ≡ length (enteringAll (lentOf (now (fixed .entry)) (now (marks .entry)) (now (log .entry)) (now (stored .entry)) (now (tables .entry)) (now (online .entry)) (now (pool .entry)))) ⌝ }
+    requires { ⌜ Restartable (areas fixed marks log stored tables online pool) ⌝ }
+    ensures { λ r. ⌜ r ≡ length (enteringAll (before fixed marks log stored tables online pool)) ⌝ }
 {
     count_all(fixed, marks, log)
 }
@@ -164,8 +165,8 @@ pub fn restart(
     online: &mut [u8],
     pool: &[u8],
 )
-    requires { ⌜ Restarts (lentOf (now fixed) (now marks) (now log) (now stored) (now tables) (now online) (now pool)) ⌝ }
-    ensures { λ r. ⌜ lentOf (now (fixed .entry)) (now (marks .entry)) (now (log .entry)) (now (stored .entry)) (now (tables .exit)) (now (online .exit)) (now (pool .entry)) ≡ restarted (lentOf (now (fixed .entry)) (now (marks .entry)) (now (log .entry)) (now (stored .entry)) (now (tables .entry)) (now (online .entry)) (now (pool .entry))) .lent ⌝ }
+    requires { ⌜ Restarts (areas fixed marks log stored tables online pool) ⌝ }
+    ensures { λ r. ⌜ after fixed marks log stored tables online pool ≡ restarted (before fixed marks log stored tables online pool) .lent ⌝ }
 {
     format::clear(tables);
     format::clear(online);

@@ -36,6 +36,14 @@ module _ {A : Type 0} where
       go (inl e) g = f x (and-both (b x) (every b l) h .0) e
       go (inr e) g = g e
 
+  -- a test that each passes implies another
+  pub every-imp : (b d : A → Bool) → ((x : A) → b x ≡ true → d x ≡ true) → (l : List A) → every b l ≡ true → every d l ≡ true
+  unfolding every
+  every-imp b d f [] h = refl
+  every-imp b d f (x ∷ l) h =
+      let e = and-both (b x) (every b l) h in
+      rw (f x (e .0)) (every-imp b d f l (e .1))
+
   -- those that a test keeps pass what it implies
   pub every-kept : (b d : A → Bool) → ((x : A) → b x ≡ true → d x ≡ true) → (l : List A) → every d (keep b l) ≡ true
   unfolding every keep

@@ -1,7 +1,7 @@
 -- The smallest and the greatest number of rows: close takes dirty numbers and what is dropped from the first, compact takes a stamp from the second.
-use Prim.Native.Nat.{ℕ, zero, suc, _≤_, max}
+use Prim.Native.Nat.{ℕ, zero, suc, _≤_, min, max}
 use native.Mathlib.Omega.{arith}
-use mathlib.Core.Path.{_≡_, refl, sym, subst}
+use mathlib.Core.Path.{_≡_, refl, sym, ap, _∙_, subst}
 use mathlib.Core.Logic.{_⊎_, inl, inr}
 use mathlib.Core.Bool.{Bool, true, false, _||_}
 use mathlib.Core.List.{List, [], _∷_}
@@ -9,11 +9,11 @@ use lib.ListN.{length}
 use lib.Dec.{eqb, leb}
 use borrow.Author.Tests.{eq-eqb, leb-true, leb-false, le-leb}
 use Rattle.word.proofs.Tests.{and-both}
-use Rattle.record.specs.Rows.{any}
+use Rattle.record.specs.Rows.{consIf, keep, any}
 use Rattle.record.specs.Record.{numberOf, lesser, smallest, greatest}
 use Rattle.record.proofs.Laws.{lesser-none, lesser-old, lesser-new}
 use Rattle.rules.specs.Sound.{every}
-use Rattle.rules.proofs.Every.{or-either, or-left, or-right}
+use Rattle.rules.proofs.Every.{or-either, or-left, or-right, every-keep}
 
 -- a row that has a number, and one whose number is at most n
 abbrev pub hasNumber : List ℕ → Bool
@@ -147,3 +147,81 @@ greatest-under a n (r ∷ rs) k h =
 
 pub greatest-most : (n : ℕ) (rs : List (List ℕ)) → every (numberAtMost n) rs ≡ true → greatest 0 rs ≤ n
 greatest-most n rs h = greatest-under 0 n rs (omega arith) h
+
+-- the smaller of two numbers, where 0 is none on either side
+unfoldable pub least : ℕ → ℕ → ℕ
+least zero b = b
+least (suc a) zero = suc a
+least (suc a) (suc b) = suc (min a b)
+
+least-none : (a : ℕ) → least a 0 ≡ a
+unfolding least
+least-none zero = refl
+least-none (suc a) = refl
+
+least-comm : (a b : ℕ) → least a b ≡ least b a
+unfolding least
+least-comm zero zero = refl
+least-comm zero (suc b) = refl
+least-comm (suc a) zero = refl
+least-comm (suc a) (suc b) = omega arith
+
+least-assoc : (a b c : ℕ) → least (least a b) c ≡ least a (least b c)
+unfolding least
+least-assoc zero b c = refl
+least-assoc (suc a) zero c = refl
+least-assoc (suc a) (suc b) zero = refl
+least-assoc (suc a) (suc b) (suc c) = omega arith
+
+least-twice : (n a b : ℕ) → least n (least a b) ≡ least (least n a) (least n b)
+unfolding least
+least-twice zero a b = refl
+least-twice (suc n) zero zero = omega arith
+least-twice (suc n) zero (suc b) = omega arith
+least-twice (suc n) (suc a) zero = omega arith
+least-twice (suc n) (suc a) (suc b) = omega arith
+
+-- a number that is there is taken in alike
+least-new : (a b : ℕ) → 1 ≤ b → lesser a b ≡ least a b
+unfolding least
+least-new zero b h = sym (lesser-none 0 b refl)
+least-new (suc a) zero h = absurd (omega arith)
+least-new (suc a) (suc b) h = go (lesser-is (suc a) (suc b) (omega arith))
+  where
+    go : ((lesser (suc a) (suc b) ≡ suc a) × (suc a ≤ suc b)) ⊎ ((lesser (suc a) (suc b) ≡ suc b) × (suc b ≤ suc a)) → lesser (suc a) (suc b) ≡ suc (min a b)
+    go (inl e) = omega (arith, e .0, e .1)
+    go (inr e) = omega (arith, e .0, e .1)
+
+-- so the smallest of rows after a number is the smaller of the two
+smallest-least : (a : ℕ) (rs : List (List ℕ)) → every hasNumber rs ≡ true → smallest a rs ≡ least a (smallest 0 rs)
+unfolding smallest every
+smallest-least a [] h = sym (least-none a)
+smallest-least a (r ∷ rs) h =
+    let e = and-both (hasNumber r) (every hasNumber rs) h in
+    let n : ℕ = numberOf r in
+    let least-rest : smallest (lesser 0 n) rs ≡ least n (smallest 0 rs) = smallest-least (lesser 0 n) rs (e .1) ∙ ap (λ (x : ℕ). least x (smallest 0 rs)) (sym (lesser-none 0 n refl)) in
+    smallest-least (lesser a n) rs (e .1)
+    ∙ ap (λ (x : ℕ). least x (smallest 0 rs)) (least-new a n (leb-true 1 n (e .0)))
+    ∙ least-assoc a n (smallest 0 rs) ∙ ap (λ (x : ℕ). least a x) (sym least-rest)
+
+smallest-one : (r : List ℕ) (l : List (List ℕ)) → every hasNumber l ≡ true → smallest 0 (r ∷ l) ≡ least (numberOf r) (smallest 0 l)
+unfolding smallest
+smallest-one r l h = smallest-least (lesser 0 (numberOf r)) l h ∙ ap (λ (x : ℕ). least x (smallest 0 l)) (sym (lesser-none 0 (numberOf r) refl))
+
+-- of rows that pass one of two tests, the smallest is the smaller of the two
+pub smallest-split : (b d u : List ℕ → Bool) → ((r : List ℕ) → u r ≡ (b r || d r)) → (l : List (List ℕ)) → every hasNumber l ≡ true → smallest 0 (keep u l) ≡ least (smallest 0 (keep b l)) (smallest 0 (keep d l))
+unfolding keep every least
+smallest-split b d u f [] h = sym (ap (λ (x : ℕ). least x (smallest 0 [])) smallest-nothing)
+smallest-split b d u f (r ∷ l) h =
+    let e = and-both (hasNumber r) (every hasNumber l) h in
+    ap (λ (t : Bool). smallest 0 (consIf t r (keep u l))) (f r) ∙ go (b r) (d r) (every-keep u hasNumber l (e .1)) (every-keep b hasNumber l (e .1)) (every-keep d hasNumber l (e .1)) (smallest-split b d u f l (e .1))
+  where
+    go : (x y : Bool) → every hasNumber (keep u l) ≡ true → every hasNumber (keep b l) ≡ true → every hasNumber (keep d l) ≡ true → smallest 0 (keep u l) ≡ least (smallest 0 (keep b l)) (smallest 0 (keep d l))
+        → smallest 0 (consIf (x || y) r (keep u l)) ≡ least (smallest 0 (consIf x r (keep b l))) (smallest 0 (consIf y r (keep d l)))
+    go true true hu hb hd i = smallest-one r (keep u l) hu ∙ ap (λ (x : ℕ). least (numberOf r) x) i ∙ least-twice (numberOf r) (smallest 0 (keep b l)) (smallest 0 (keep d l)) ∙ sym (λ j. least (smallest-one r (keep b l) hb j) (smallest-one r (keep d l) hd j))
+    go true false hu hb hd i = smallest-one r (keep u l) hu ∙ ap (λ (x : ℕ). least (numberOf r) x) i ∙ sym (least-assoc (numberOf r) (smallest 0 (keep b l)) (smallest 0 (keep d l))) ∙ sym (ap (λ (x : ℕ). least x (smallest 0 (keep d l))) (smallest-one r (keep b l) hb))
+    go false true hu hb hd i =
+        smallest-one r (keep u l) hu ∙ ap (λ (x : ℕ). least (numberOf r) x) (i ∙ least-comm (smallest 0 (keep b l)) (smallest 0 (keep d l)))
+        ∙ sym (least-assoc (numberOf r) (smallest 0 (keep d l)) (smallest 0 (keep b l))) ∙ least-comm (least (numberOf r) (smallest 0 (keep d l))) (smallest 0 (keep b l))
+        ∙ sym (ap (λ (x : ℕ). least (smallest 0 (keep b l)) x) (smallest-one r (keep d l) hd))
+    go false false hu hb hd i = i

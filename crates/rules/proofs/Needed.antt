@@ -10,7 +10,7 @@ use lib.Dec.{eqb, leb}
 use borrow.Author.Tests.{eqb-true, eqb-false, leb-true, leb-false, not-true}
 use Rattle.word.proofs.Tests.{and-both}
 use Rattle.record.specs.Rows.{rows, consIf, keep, any}
-use Rattle.record.specs.Record.{pageOf, numberOf, committed, entered, onPage, committedOn, ownedBy, gone, smallest}
+use Rattle.record.specs.Record.{pageOf, numberOf, committed, entered, onPage, committedOn, ownedBy, smallest}
 use Rattle.order.specs.Order.{without}
 use Rattle.rules.specs.Lent.{Lent, framesOf, closedOf, loggedOf, stampOf, dirtyOf, firstOf, orderOf, entryAt, entryOf, onlineOf, frameOf, isDirty}
 use Rattle.rules.specs.Sound.{every}
@@ -33,11 +33,11 @@ entering-passed s k b bs e = ap (λ (t : Bool). consIf t (entered b k) (entering
 pub folds-committed : (s : Lent) (p : ℕ) → every committed (foldable s p) ≡ true
 folds-committed s p = every-kept (committedOn p) committed (λ r h. and-both (onPage p r) (committed r) h .1) (onlineOf s)
 
-pub open-stays : (p : ℕ) (r : List ℕ) → not (committed r) ≡ true → not (gone false 0 p r) ≡ true
+pub open-stays : (p : ℕ) (r : List ℕ) → not (committed r) ≡ true → not (committedOn p r) ≡ true
 open-stays p r h = ap (λ (t : Bool). not (onPage p r && t)) (not-true (committed r) h) ∙ ap not (and-false (onPage p r))
 
 pub unfolded-open : (s : Lent) (p : ℕ) → keep (λ (r : List ℕ). not (committed r)) (unfolded s p) ≡ keep (λ (r : List ℕ). not (committed r)) (onlineOf s)
-unfolded-open s p = keep-within (λ (r : List ℕ). not (committed r)) (λ (r : List ℕ). not (gone false 0 p r)) (open-stays p) (onlineOf s)
+unfolded-open s p = keep-within (λ (r : List ℕ). not (committed r)) (λ (r : List ℕ). not (committedOn p r)) (open-stays p) (onlineOf s)
 
 -- a walk over rows, that sets what stands at the place of each row's page to what v says of the page
 unfoldable pub walked : (ℕ → ℕ) → (ℕ → ℕ) → List (List ℕ) → List ℕ → List ℕ

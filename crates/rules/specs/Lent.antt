@@ -7,6 +7,7 @@ use lib.Dec.{eqb}
 use Rattle.word.specs.Word.{num, put}
 use Rattle.record.specs.Part.{part, withPart}
 use Rattle.record.specs.Rows.{rows, table}
+use Rattle.rules.specs.declared.Params.{Params}
 
 -- "Durable: stored pages, a stamp for each page, L, the log, checkpoint number K, and a dirty table", and what format was given
 pub record Durable : Type 0 where
@@ -42,11 +43,22 @@ pagesOf s = num 4 (s .durable .fixed) 4
 abbrev pub framesOf : Lent → ℕ
 framesOf s = num 4 (s .durable .fixed) 8
 
-abbrev pub roomOf : Lent → ℕ
-roomOf s = num 4 (s .durable .fixed) 12
+abbrev pub onlineSizeOf : Lent → ℕ
+onlineSizeOf s = num 4 (s .durable .fixed) 12
 
-abbrev pub spanOf : Lent → ℕ
-spanOf s = num 4 (s .durable .fixed) 16
+abbrev pub logSizeOf : Lent → ℕ
+logSizeOf s = num 4 (s .durable .fixed) 16
+
+-- the parameters, and those that `fixed` holds
+abbrev pub given : ℕ → ℕ → ℕ → ℕ → ℕ → Params
+given pageSize pages frames onlineSize logSize = record { size = pageSize; pages = pages; frames = frames; online = onlineSize; log = logSize }
+
+abbrev pub paramsOf : Lent → Params
+paramsOf s = given (sizeOf s) (pagesOf s) (framesOf s) (onlineSizeOf s) (logSizeOf s)
+
+-- `fixed` as format writes it
+abbrev pub fixedOf : Params → List ℕ
+fixedOf g = put 4 (put 4 (put 4 (put 4 (put 4 (replicate 20 0) 0 (g .size)) 4 (g .pages)) 8 (g .frames)) 12 (g .online)) 16 (g .log)
 
 -- marks: L, K, n, the stamps, the dirty numbers
 abbrev pub lastOf : Lent → ℕ

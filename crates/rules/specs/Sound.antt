@@ -7,8 +7,9 @@ use lib.Dec.{eqb, leb, ltb}
 use Rattle.word.specs.Word.{num}
 use Rattle.record.specs.Part.{part}
 use Rattle.record.specs.Rows.{rowAt, keep, any}
-use Rattle.record.specs.Record.{pageOf, ownerOf, numberOf, committed, bodyOf, onPage, wellFormed, shareByte}
-use Rattle.rules.specs.Lent.{Lent, sizeOf, pagesOf, framesOf, roomOf, spanOf, lastOf, closedOf, loggedOf, stampOf, dirtyOf, firstOf, logOf, countOf, usedOf, liveOf, orderOf, entriesOf, onlineOf, isDirty}
+use Rattle.record.specs.Record.{pageOf, ownerOf, numberOf, committed, bodyOf, onPage, wellFormed, free}
+use Rattle.rules.specs.declared.Params.{Params}
+use Rattle.rules.specs.Lent.{Lent, paramsOf, sizeOf, pagesOf, framesOf, onlineSizeOf, logSizeOf, lastOf, closedOf, loggedOf, stampOf, dirtyOf, firstOf, logOf, countOf, usedOf, liveOf, orderOf, entriesOf, onlineOf, isDirty}
 
 module _ {A : Type 0} where
   -- each passes the test
@@ -37,29 +38,29 @@ between low n high = leb low n && leb n high
 unfoldable pub isPageSize : ℕ → Bool
 isPageSize n = eqb n 512 || eqb n 1024 || eqb n 2048 || eqb n 4096
 
-unfoldable pub inRange : ℕ → ℕ → ℕ → ℕ → ℕ → Bool
-inRange size pages frames room span = isPageSize size && between 1 pages 1024 && between 1 frames 64 && between 1 room 512 && between 1 span 2048
+unfoldable pub inRange : Params → Bool
+inRange g = isPageSize (g .size) && between 1 (g .pages) 1024 && between 1 (g .frames) 64 && between 1 (g .online) 512 && between 1 (g .log) 2048
 
 -- the lengths of the other areas for these parameters
-unfoldable pub exactLengths : Lent → ℕ → ℕ → ℕ → ℕ → ℕ → Bool
-exactLengths s size pages frames room span =
-    eqb (length (s .durable .marks)) (12 + 8 * pages) && eqb (length (s .durable .log)) (14 * span) && eqb (length (s .durable .stored)) (size * pages)
-    && eqb (length (s .lost .tables)) (35 + frames + pages) && eqb (length (s .lost .online)) (19 * room) && eqb (length (s .lost .pool)) (size * frames)
+unfoldable pub exactLengths : Lent → Params → Bool
+exactLengths s g =
+    eqb (length (s .durable .marks)) (12 + 8 * g .pages) && eqb (length (s .durable .log)) (14 * g .log) && eqb (length (s .durable .stored)) (g .size * g .pages)
+    && eqb (length (s .lost .tables)) (35 + g .frames + g .pages) && eqb (length (s .lost .online)) (19 * g .online) && eqb (length (s .lost .pool)) (g .size * g .frames)
 
 -- S1 "parameters in range"
 unfoldable pub s1-parameters : Lent → Bool
-s1-parameters s = eqb (length (s .durable .fixed)) 20 && inRange (sizeOf s) (pagesOf s) (framesOf s) (roomOf s) (spanOf s)
+s1-parameters s = eqb (length (s .durable .fixed)) 20 && inRange (paramsOf s)
 
 -- S2 "lent lengths exact"
 unfoldable pub s2-lengths : Lent → Bool
-s2-lengths s = exactLengths s (sizeOf s) (pagesOf s) (framesOf s) (roomOf s) (spanOf s)
+s2-lengths s = exactLengths s (paramsOf s)
 
 -- S3 "counts within sizes": the log's is durable, the others lost
 unfoldable pub s3-logged : Lent → Bool
-s3-logged s = leb (loggedOf s) (spanOf s)
+s3-logged s = leb (loggedOf s) (logSizeOf s)
 
 unfoldable pub s3-counts : Lent → Bool
-s3-counts s = leb (countOf s) (roomOf s) && leb (usedOf s) (framesOf s)
+s3-counts s = leb (countOf s) (onlineSizeOf s) && leb (usedOf s) (framesOf s)
 
 -- S4 "each page entry is absent, in a frame (clean or dirty) or evicted (always dirty)"
 unfoldable pub s4-entries : Lent → Bool
@@ -123,7 +124,7 @@ s12-dirty s = upTo (λ (p : ℕ). agree (isDirty (getD (entriesOf s) p 0)) (any 
 
 -- S13 "uncommitted records of different owners share no byte"
 unfoldable pub apart : List ℕ → List ℕ → Bool
-apart a b = committed a || committed b || eqb (ownerOf a) (ownerOf b) || not (shareByte a b)
+apart a b = committed a || committed b || eqb (ownerOf a) (ownerOf b) || free a b
 
 unfoldable pub s13-apart : Lent → Bool
 s13-apart s = pairs apart (onlineOf s)

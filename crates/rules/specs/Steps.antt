@@ -7,9 +7,10 @@ use lib.Dec.{eqb, leb}
 use Rattle.word.specs.Word.{num, put}
 use Rattle.record.specs.Part.{part, withPart}
 use Rattle.record.specs.Rows.{rows, table, consIf, keep, any}
-use Rattle.record.specs.Record.{pageOf, numberOf, committed, bodyOf, apply, applied, rowOf, entered, onPage, committedOn, ownedBy, gone, numberRows, lesser, smallest, greatest}
+use Rattle.record.specs.Record.{pageOf, numberOf, committed, bodyOf, apply, applied, rowOf, entered, onPage, committedOn, ownedBy, numberRows, lesser, smallest, greatest}
 use Rattle.order.specs.Order.{without, touched, frameFor}
-use Rattle.rules.specs.Lent.{Lent, lentOf, sizeOf, pagesOf, framesOf, roomOf, spanOf, lastOf, closedOf, loggedOf, stampAt, dirtyAt, stampOf, dirtyOf, firstOf, logOf, countOf, liveAt, orderOf, entryAt, entryOf, entriesOf, onlineOf, inFrame, frameOf, isDirty, cleanIn, dirtyIn, pageIn, withPage, withOrder, withEntries, withCount}
+use Rattle.rules.specs.declared.Params.{Params}
+use Rattle.rules.specs.Lent.{Lent, fixedOf, lentOf, sizeOf, pagesOf, framesOf, onlineSizeOf, logSizeOf, lastOf, closedOf, loggedOf, stampAt, dirtyAt, stampOf, dirtyOf, firstOf, logOf, countOf, liveAt, orderOf, entryAt, entryOf, entriesOf, onlineOf, inFrame, frameOf, isDirty, cleanIn, dirtyIn, pageIn, withPage, withOrder, withEntries, withCount}
 
 -- the lent bytes with other tables, and so on
 abbrev pub lostNow : Lent → List ℕ → List ℕ → List ℕ → Lent
@@ -24,6 +25,10 @@ pub record Left : Type 0 where
 
 abbrev pub left : Lent → ℕ → ℕ → ℕ → Left
 left s r w l = record { lent = s; reads = r; writes = w; logs = l }
+
+-- one step after another: the bytes of the later, and "the sum of its steps" as counts
+abbrev pub andThen : Left → Left → Left
+andThen d e = left (e .lent) (d .reads + e .reads) (d .writes + e .writes) (d .logs + e .logs)
 
 -- "Begin makes the number live."
 unfoldable pub begun : Lent → ℕ → Left
@@ -76,7 +81,7 @@ updateTables s p = withCount (countOf s + 1) (withOrder (framesOf s) (touched (p
 unfoldable pub updated : Lent → List ℕ → Left
 updated s r =
     left
-    (lostNow s (updateTables s (pageOf r)) (table 19 (roomOf s) (onlineOf s ++ (r ∷ []))) (withPage (sizeOf s) (placeOf s (pageOf r)) (fetchedPool s (pageOf r)) (apply r (pageIn (sizeOf s) (placeOf s (pageOf r)) (fetchedPool s (pageOf r))))))
+    (lostNow s (updateTables s (pageOf r)) (table 19 (onlineSizeOf s) (onlineOf s ++ (r ∷ []))) (withPage (sizeOf s) (placeOf s (pageOf r)) (fetchedPool s (pageOf r)) (apply r (pageIn (sizeOf s) (placeOf s (pageOf r)) (fetchedPool s (pageOf r))))))
     (fetchReads s (pageOf r)) 0 0
 
 -- "Commit numbers the owner's k records L+1 to L+k in table order, appends them to the log, clears the owner, ends the transaction."
@@ -88,16 +93,16 @@ committing s x =
     left
     (lentOf (s .durable .fixed)
     (put 4 (put 4 (s .durable .marks) 0 (lastOf s + length (owned s x))) 8 (loggedOf s + length (owned s x)))
-    (table 14 (spanOf s) (logOf s ++ map bodyOf (owned s x)))
+    (table 14 (logSizeOf s) (logOf s ++ map bodyOf (owned s x)))
     (s .durable .stored)
     (set (s .lost .tables) (liveAt x) 0)
-    (table 19 (roomOf s) (numberRows x (lastOf s + 1) (onlineOf s)))
+    (table 19 (onlineSizeOf s) (numberRows x (lastOf s + 1) (onlineOf s)))
     (s .lost .pool))
     0 0 (cond (eqb (length (owned s x)) 0) 0 1)
 
 -- "Abort deletes the owner's records, the others keeping their order. Each page that had one loses its frame; its entry becomes evicted if records remain, else absent. The transaction ends."
 abbrev pub others : Lent → ℕ → List (List ℕ)
-others s x = keep (λ (r : List ℕ). not (gone true x 0 r)) (onlineOf s)
+others s x = keep (λ (r : List ℕ). not (ownedBy x r)) (onlineOf s)
 
 -- the order without the frames of these rows' pages
 unfoldable pub framesFreed : ℕ → List ℕ → List (List ℕ) → List ℕ → List ℕ
@@ -114,7 +119,7 @@ aborted s x =
     left
     (lostNow s
     (set (withCount (length (others s x)) (withOrder (framesOf s) (framesFreed (framesOf s) (s .lost .tables) (owned s x) (orderOf s)) (judgedAnew (framesOf s) (others s x) (owned s x) (s .lost .tables)))) (liveAt x) 0)
-    (table 19 (roomOf s) (others s x))
+    (table 19 (onlineSizeOf s) (others s x))
     (s .lost .pool))
     0 0 0
 
@@ -148,7 +153,7 @@ unfoldable pub compactedOrder : Lent → ℕ → List ℕ
 compactedOrder s p = cond (fromFrame s p) (orderOf s) (freedOf (entryOf s p) (orderOf s))
 
 abbrev pub unfolded : Lent → ℕ → List (List ℕ)
-unfolded s p = keep (λ (r : List ℕ). not (gone false 0 p r)) (onlineOf s)
+unfolded s p = keep (λ (r : List ℕ). not (committedOn p r)) (onlineOf s)
 
 unfoldable pub compacted : Lent → ℕ → Left
 compacted s p =
@@ -158,7 +163,7 @@ compacted s p =
     (s .durable .log)
     (withPage (sizeOf s) p (s .durable .stored) (compactedPage s p))
     (withCount (length (unfolded s p)) (withOrder (framesOf s) (compactedOrder s p) (set (s .lost .tables) (entryAt (framesOf s) p) (compactedEntry s p))))
-    (table 19 (roomOf s) (unfolded s p))
+    (table 19 (onlineSizeOf s) (unfolded s p))
     (s .lost .pool))
     (cond (fromFrame s p) 0 1) 1 0
 
@@ -180,7 +185,7 @@ closed s =
     left
     (lentOf (s .durable .fixed)
     (put 4 (put 4 (lowered (pagesOf s) (onlineOf s) (withPart (dirtyAt (pagesOf s) 0) (4 * pagesOf s) (s .durable .marks) (replicate (4 * pagesOf s) 0))) 4 (lastOf s)) 8 (loggedOf s - droppedBy s))
-    (table 14 (spanOf s) (drop (droppedBy s) (logOf s)))
+    (table 14 (logSizeOf s) (drop (droppedBy s) (logOf s)))
     (s .durable .stored)
     (s .lost .tables) (s .lost .online) (s .lost .pool))
     0 0 1
@@ -191,13 +196,13 @@ afterPages minDel maxAge zero s = left s 0 0 0
 afterPages minDel maxAge (suc j) s = onward (afterPages minDel maxAge j s)
   where
     onward : Left → Left
-    onward d = left (compactStep minDel maxAge (d .lent) j .lent) (d .reads + compactStep minDel maxAge (d .lent) j .reads) (d .writes + compactStep minDel maxAge (d .lent) j .writes) 0
+    onward d = andThen d (compactStep minDel maxAge (d .lent) j)
 
 unfoldable pub checkpointed : ℕ → ℕ → Lent → Left
 checkpointed minDel maxAge s = then-close (afterPages minDel maxAge (pagesOf s) s)
   where
     then-close : Left → Left
-    then-close d = left (closed (d .lent) .lent) (d .reads) (d .writes) 1
+    then-close d = andThen d (closed (d .lent))
 
 -- Restart. "one numbered at most K whose page's dirty number is 0 is passed over; one numbered at most the page's stamp is passed over; any other enters"
 abbrev pub enters : Lent → ℕ → List ℕ → Bool
@@ -222,7 +227,7 @@ restarted s =
     left
     (lostNow s
     (withCount (length (enteringAll s)) (evictedAll (framesOf s) (enteringAll s) (replicate (length (s .lost .tables)) 0)))
-    (table 19 (roomOf s) (enteringAll s))
+    (table 19 (onlineSizeOf s) (enteringAll s))
     (s .lost .pool))
     0 0 0
 
@@ -231,12 +236,12 @@ unfoldable pub stamped : ℕ → ℕ → ℕ → List ℕ → List ℕ
 stamped zero p last ms = ms
 stamped (suc n) p last ms = stamped n (p + 1) last (put 4 ms (stampAt p) last)
 
-unfoldable pub formatted : Lent → ℕ → ℕ → ℕ → ℕ → ℕ → ℕ → Left
-formatted s size pages frames room span last =
+unfoldable pub formatted : Lent → Params → ℕ → Left
+formatted s g last =
     left
     (lentOf
-    (put 4 (put 4 (put 4 (put 4 (put 4 (replicate 20 0) 0 size) 4 pages) 8 frames) 12 room) 16 span)
-    (stamped pages 0 last (put 4 (put 4 (replicate (length (s .durable .marks)) 0) 0 last) 4 last))
+    (fixedOf g)
+    (stamped (g .pages) 0 last (put 4 (put 4 (replicate (length (s .durable .marks)) 0) 0 last) 4 last))
     (replicate (length (s .durable .log)) 0)
     (s .durable .stored)
     (replicate (length (s .lost .tables)) 0)

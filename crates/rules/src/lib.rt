@@ -3,6 +3,15 @@
 ghost use mathlib.Core.Path.{_≡_};
 ghost use Rattle.rules.specs.Answers.{codeOf, replyOf};
 
+// What format is given, L apart: page size, pages, frames, and the sizes of the online table and the log in records.
+pub struct Params {
+    pub size: u64,
+    pub pages: u64,
+    pub frames: u64,
+    pub online: u64,
+    pub log: u64,
+}
+
 // The first bad argument, in the order in which they are judged.
 pub enum Bad {
     Page,

@@ -11,7 +11,7 @@ use borrow.Author.Tests.{ltb-true, eqb-true, eqb-false, lt-ltb, eq-eqb, ne-eqb}
 use Rattle.word.proofs.Tests.{and-both}
 use Rattle.record.specs.Rows.{consIf, keep}
 use Rattle.order.specs.Order.{without, touched}
-use Rattle.rules.specs.Sound.{every, upTo, serving, times}
+use Rattle.rules.specs.Sound.{every, serving, times}
 use Rattle.rules.specs.Steps.{freed}
 
 -- one more at the front
@@ -142,12 +142,3 @@ pigeonhole (suc n) o h k =
     go : (f : ℕ) → f < n → (b : Bool) → times f o ≤ 1 → times f (without n o) ≡ cond b 0 (times f o) → times f (without n o) ≤ 1
     go f q true r e = omega arith
     go f q false r e = omega arith
-
--- what holds of each number holds up to the end
-pub upTo-all : (b : ℕ → Bool) (n a : ℕ) → ((i : ℕ) → i < n → b (a + i) ≡ true) → upTo b n a ≡ true
-unfolding upTo
-upTo-all b zero a h = refl
-upTo-all b (suc n) a h =
-    let e : a + 0 ≡ a = omega arith in
-    let k : (i : ℕ) → i < n → b (a + 1 + i) ≡ true = λ i q. (let d : a + suc i ≡ a + 1 + i = omega arith in rw d at (h (suc i) (omega arith))) in
-    rw (rw e at (h 0 (omega arith))) (upTo-all b n (a + 1) k)

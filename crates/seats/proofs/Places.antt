@@ -15,9 +15,10 @@ use Rattle.rules.specs.Lent.{inFrame, frameOf, isDirty, cleanIn, dirtyIn}
 use Rattle.rules.specs.Sound.{every, upTo, serving, times}
 use Rattle.rules.specs.Steps.{freedOf, freed, placed}
 use Rattle.rules.proofs.Every.{every-at, every-set, every-without}
-use Rattle.fetch.proofs.Laws.{frame-below}
+use Rattle.rules.proofs.Kept.{frame-below}
 use Rattle.seats.proofs.Seated.{Seated}
-use Rattle.seats.proofs.Counting.{times-without, times-touched, serving-none, serving-cons, serving-set, serving-at, serving-freed, times-none, pigeonhole, upTo-all}
+use Rattle.rules.proofs.Walks.{upTo-all}
+use Rattle.seats.proofs.Counting.{times-without, times-touched, serving-none, serving-cons, serving-set, serving-at, serving-freed, times-none, pigeonhole}
 
 -- an entry in a frame is made of the frame; one in none is absent or evicted
 pub in-frame : (e : ℕ) → inFrame e ≡ true → e / 2 ≡ frameOf e + 1
@@ -332,9 +333,9 @@ module _ {frames : ℕ} {es o : List ℕ} (w : Seated frames es o) where
 
   -- S5 and S6 of "Sound tables"
   pub seated-s5 : upTo (λ (f : ℕ). leb (serving f es) 1) frames 0 ≡ true
-  seated-s5 = upTo-all (λ (f : ℕ). leb (serving f es) 1) frames 0 (λ i h. le-leb (serving (0 + i) es) 1 (w .once (0 + i) (omega arith)))
+  seated-s5 = upTo-all (λ (f : ℕ). leb (serving f es) 1) frames 0 (λ i _ h. le-leb (serving i es) 1 (w .once i (omega arith)))
 
   pub seated-s6 : (every (λ (f : ℕ). ltb f frames) o && upTo (λ (f : ℕ). eqb (times f o) (serving f es)) frames 0) ≡ true
   seated-s6 =
-      let k = upTo-all (λ (f : ℕ). eqb (times f o) (serving f es)) frames 0 (λ i h. eq-eqb (times (0 + i) o) (serving (0 + i) es) (w .named (0 + i) (omega arith))) in
+      let k = upTo-all (λ (f : ℕ). eqb (times f o) (serving f es)) frames 0 (λ i _ h. eq-eqb (times i o) (serving i es) (w .named i (omega arith))) in
       rw (w .order-within) k

@@ -7,31 +7,35 @@ ghost use lib.ListN.{length, getD};
 ghost use Rattle.word.specs.Word.{num};
 ghost use Rattle.pagetable.specs.Test.{tablesTest};
 ghost use Rattle.onlinecheck.specs.Online.{onlineTest};
-ghost use Rattle.rules.specs.Lent.{lentOf};
+ghost use Rattle.rules.specs.Areas.{areas, before};
 ghost use Rattle.rules.specs.Sound.{soundDurable, soundLost, sound};
+use rules::Params;
 
 // The lost part, by the parameters that the durable part gave.
-fn lost_at(
-    marks: &[u8],
-    log: &[u8],
-    tables: &[u8],
-    online: &[u8],
-    size: usize,
-    pages: usize,
-    frames: usize,
-    room: usize,
-    span: usize,
-) -> bool
-    requires { ⌜ (size ≤ 4096) × (pages ≤ 1024) × (frames ≤ 64) × (room ≤ 512) × (span ≤ 2048) × (length (now marks) ≡ 12 + 8 * pages) × (length (now log) ≡ 14 * span) × (length (now tables) ≡ 35 + frames + pages) × (length (now online) ≡ 19 * room) × (num 4 (now marks) 8 ≤ span) × (num 4 (now marks) 8 ≤ num 4 (now marks) 0) × (8 ≤ size) ⌝ }
-    ensures { λ r. ⌜ r ≡ (tablesTest (now (tables .entry)) pages frames room && onlineTest (now (online .entry)) (num 2 (now (tables .entry)) 0) (now (log .entry)) (num 4 (now (marks .entry)) 8) (now (marks .entry)) (now (tables .entry)) size pages frames (num 4 (now (marks .entry)) 0)) ⌝ }
+fn lost_at(marks: &[u8], log: &[u8], tables: &[u8], online: &[u8], g: Params) -> bool
+    requires { ⌜ (g .size ≤ 4096) × (g .pages ≤ 1024) × (g .frames ≤ 64) × (g .online ≤ 512) × (g .log ≤ 2048) × (length (now marks) ≡ 12 + 8 * g .pages) × (length (now log) ≡ 14 * g .log) × (length (now tables) ≡ 35 + g .frames + g .pages) × (length (now online) ≡ 19 * g .online) × (num 4 (now marks) 8 ≤ g .log) × (num 4 (now marks) 8 ≤ num 4 (now marks) 0) × (8 ≤ g .size) ⌝ }
+    ensures { λ r. ⌜ r ≡ (tablesTest (now (tables .entry)) (g .pages) (g .frames) (g .online) && onlineTest (now (online .entry)) (num 2 (now (tables .entry)) 0) (now (log .entry)) (num 4 (now (marks .entry)) 8) (now (marks .entry)) (now (tables .entry)) (g .size) (g .pages) (g .frames) (num 4 (now (marks .entry)) 0)) ⌝ }
 {
-    if !pagetable::sound_tables(tables, pages, frames, room) {
+    let pages = g.pages as usize;
+    let frames = g.frames as usize;
+    if !pagetable::sound_tables(tables, pages, frames, g.online as usize) {
         return false;
     }
     let m = word::load(tables, 0, 2) as usize;
     let n = word::load(marks, 8, 4) as usize;
     let last = word::load(marks, 0, 4);
-    onlinecheck::sound_online(online, m, log, n, marks, tables, size, pages, frames, last)
+    onlinecheck::sound_online(
+        online,
+        m,
+        log,
+        n,
+        marks,
+        tables,
+        g.size as usize,
+        pages,
+        frames,
+        last,
+    )
 }
 
 fn sound_lost(
@@ -43,21 +47,10 @@ fn sound_lost(
     online: &[u8],
     pool: &[u8],
 ) -> bool
-    requires { ⌜ soundDurable (lentOf (now fixed) (now marks) (now log) (now stored) (now tables) (now online) (now pool)) ≡ true ⌝ }
-    ensures { λ r. ⌜ r ≡ soundLost (lentOf (now (fixed .entry)) (now (marks .entry)) (now (log .entry)) (now (stored .entry)) (now (tables .entry)) (now (online .entry)) (now (pool .entry))) ⌝ }
+    requires { ⌜ soundDurable (areas fixed marks log stored tables online pool) ≡ true ⌝ }
+    ensures { λ r. ⌜ r ≡ soundLost (before fixed marks log stored tables online pool) ⌝ }
 {
-    let p = durable::params_of(fixed);
-    lost_at(
-        marks,
-        log,
-        tables,
-        online,
-        p.size as usize,
-        p.pages as usize,
-        p.frames as usize,
-        p.room as usize,
-        p.span as usize,
-    )
+    lost_at(marks, log, tables, online, layout::params_of(fixed))
 }
 
 pub fn is_sound(
@@ -69,7 +62,7 @@ pub fn is_sound(
     online: &[u8],
     pool: &[u8],
 ) -> bool
-    ensures { λ r. ⌜ r ≡ sound (lentOf (now (fixed .entry)) (now (marks .entry)) (now (log .entry)) (now (stored .entry)) (now (tables .entry)) (now (online .entry)) (now (pool .entry))) ⌝ }
+    ensures { λ r. ⌜ r ≡ sound (before fixed marks log stored tables online pool) ⌝ }
 {
     if !durable::sound_durable(fixed, marks, log, stored, tables, online, pool) {
         return false;

@@ -4,7 +4,7 @@ use native.Mathlib.Omega.{arith}
 use mathlib.Core.Path.{_≡_, refl, sym, ap, _∙_}
 use mathlib.Core.Bool.{Bool, true, false, cond, not}
 use mathlib.Core.List.{List, [], _∷_}
-use lib.ListN.{length, getD, take, drop, set, replicate, length-drop, length-replicate, getD-replicate, List·getD-eq-default}
+use lib.ListN.{length, getD, take, drop, set, replicate, length-drop, List·getD-eq-default}
 use lib.Seq.{getD-drop, take-all, set-out}
 use Rattle.word.specs.Word.{put}
 use Rattle.record.specs.Part.{part, withPart}
@@ -16,7 +16,7 @@ use Rattle.record.specs.Record.{pageOf, ownerOf, onPage, ownedBy}
 use Rattle.record.proofs.Laws.{getD-part}
 use Rattle.rules.proofs.Verdicts.{number-least, number-most}
 use Rattle.table.specs.Stays.{stays}
-use Rattle.table.proofs.Laws.{each-start, each-turn, each-end}
+use Rattle.record.proofs.Rows.{each-start, each-turn, each-end}
 use Rattle.order.proofs.Laws.{copy-turn}
 use Rattle.clerk.specs.declared.Clerk.{Clerk}
 use Rattle.clerk.specs.declared.Ruled.{Ruled}
@@ -26,8 +26,8 @@ use Rattle.order.specs.Order.{without}
 use Rattle.rules.specs.Lent.{liveAt, inFrame, frameOf, entryAt, withOrder, withCount}
 use Rattle.rules.specs.Steps.{freedOf, framesFreed, judgedAnew}
 use Rattle.rules.specs.Calls.{isNumber, isLive}
-use Rattle.onlinecheck.specs.Marks.{markPages}
-use Rattle.onlinecheck.proofs.Marks.{marked-any}
+use Rattle.table.specs.Marks.{markPages}
+use Rattle.table.proofs.Marks.{marked-page}
 
 -- the live set out of the tables, one slot more and all of them
 pub live-turn : (t s : List ℕ) (i : ℕ) → i < 32 → 35 ≤ length t → length s ≡ 32 → take i s ≡ take i (drop 3 t) → take (i + 1) (set s i (getD t (3 + i) 0)) ≡ take (i + 1) (drop 3 t)
@@ -94,13 +94,6 @@ row-stays x r w y z o e h q = q ∙ sym (ap (λ (b : Bool). cond (not b) y z) (n
 pub freed-page : (frames : ℕ) (t r : List ℕ) (p e : ℕ) (o o′ : List ℕ) → p ≡ pageOf r → e ≡ getD t (35 + frames + p) 0 → o′ ≡ freedOf e o → o′ ≡ freedOf (getD t (entryAt frames (pageOf r)) 0) o
 freed-page frames t r p e o o′ g h q = q ∙ ap (λ (k : ℕ). freedOf k o) (h ∙ ap (λ (k : ℕ). getD t (35 + frames + k) 0) g)
 
--- the marks of rows: a page below 1024 is marked exactly if one of the rows is of it
-marked-page : (k : List (List ℕ)) (a : List ℕ) (p : ℕ) → p < 1024 → a ≡ markPages k (replicate 1024 0) → eqb (getD a p 0) 1 ≡ any (onPage p) k
-marked-page k a p h e =
-    let n : length {A = ℕ} (replicate 1024 0) ≡ 1024 = length-replicate {A = ℕ} 1024 0 in
-    let q : p < length {A = ℕ} (replicate 1024 0) = rw n h in
-    ap (λ (x : List ℕ). eqb (getD x p 0) 1) e ∙ marked-any p k (replicate 1024 0) q ∙ rw (getD-replicate {A = ℕ} 1024 p 0 0 h)
-
 -- the entry of a page by its mark
 pub entry-marked : (a : List ℕ) (p e : ℕ) → e ≡ getD a p 0 → e ≡ 1 → _≡_ {A = ℕ} 1 (cond (eqb (getD a p 0) 1) 1 0)
 entry-marked a p e g h = sym (ap (λ (b : Bool). cond {A = ℕ} b 1 0) (eq-eqb (getD a p 0) 1 (sym g ∙ h)))
@@ -162,28 +155,6 @@ module _ (frames : ℕ) (k : List (List ℕ)) (owner m : ℕ) (l : List ℕ) whe
 
   pub judged-end : (i : ℕ) (x z : List ℕ) → m ≤ i → judgedAnew frames k (keep (ownedBy owner) (rows 19 (m - i) l i)) x ≡ z → x ≡ z
   judged-end = each-end (judgedAnew frames k) judgeOne judged-nil judged-cons (ownedBy owner) m l
-
--- the marks of the loop over the rows that stay
-module _ (owner m : ℕ) (l : List ℕ) where
-  abbrev markOne : List ℕ → List ℕ → List ℕ
-  markOne r a = set a (pageOf r) 1
-
-  marked-nil : (x : List ℕ) → markPages [] x ≡ x
-  unfolding markPages
-  marked-nil x = refl
-
-  marked-cons : (r : List ℕ) (rs : List (List ℕ)) (x : List ℕ) → markPages (r ∷ rs) x ≡ markPages rs (markOne r x)
-  unfolding markPages
-  marked-cons r rs x = refl
-
-  pub marked-start : (x : List ℕ) → markPages (keep (stays true owner 0) (rows 19 (m - 0) l 0)) x ≡ markPages (keep (stays true owner 0) (rows 19 m l 0)) x
-  marked-start = each-start markPages markOne marked-nil marked-cons (stays true owner 0) m l
-
-  pub marked-turn : (i : ℕ) (x x′ z : List ℕ) → i < m → x′ ≡ cond (stays true owner 0 (rowAt 19 l i)) (set x (pageOf (rowAt 19 l i)) 1) x → markPages (keep (stays true owner 0) (rows 19 (m - i) l i)) x ≡ z → markPages (keep (stays true owner 0) (rows 19 (m - (i + 1)) l (i + 1))) x′ ≡ z
-  marked-turn = each-turn markPages markOne marked-nil marked-cons (stays true owner 0) m l
-
-  pub marked-end : (i : ℕ) (x z : List ℕ) → m ≤ i → markPages (keep (stays true owner 0) (rows 19 (m - i) l i)) x ≡ z → x ≡ z
-  marked-end = each-end markPages markOne marked-nil marked-cons (stays true owner 0) m l
 
 -- the tables once the pages of the owner's rows are judged anew and their frames have left the order
 pub pages-taken : (frames : ℕ) (k rs : List (List ℕ)) (t t₁ t₂ l o₁ o₂ : List ℕ) → o₁ ≡ l → o₂ ≡ framesFreed frames t rs o₁ → t₁ ≡ judgedAnew frames k rs t → t₂ ≡ withOrder frames o₂ t₁ → t₂ ≡ withOrder frames (framesFreed frames t rs l) (judgedAnew frames k rs t)

@@ -11,7 +11,7 @@ ghost use Rattle.order.specs.Meant.{listOf};
 ghost use Rattle.table.specs.Stays.{stays};
 ghost use Rattle.rules.specs.Lent.{liveAt, entryAt, withOrder, withCount};
 ghost use Rattle.rules.specs.Steps.{freedOf, framesFreed, judgedAnew};
-ghost use Rattle.onlinecheck.specs.Marks.{markPages};
+ghost use Rattle.table.specs.Marks.{markPages};
 use number::FrameNo;
 use number::PageNo;
 use order::Order;

@@ -3,3 +3,4 @@ pub mod Laws
 pub mod Moves
 pub mod Turns
 pub mod Surveys
+pub mod Marks

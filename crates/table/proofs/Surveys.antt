@@ -13,7 +13,7 @@ use Rattle.record.specs.Record.{pageOf, ownerOf, numberOf, committed, onPage, c
 use Rattle.table.specs.declared.page.Survey.{Survey}
 use Rattle.table.specs.Before.{NoneBefore, NoneFrom, start, pass}
 use Rattle.table.specs.Seen.{Seen, Surveyed}
-use Rattle.table.proofs.Laws.{keep-rows-more, keep-rows-end, rows-start, count-start, count-end}
+use Rattle.record.proofs.Rows.{keep-rows-more, keep-rows-end, rows-start, count-start, count-end}
 
 keep-one : (b : List ℕ → Bool) (x : List ℕ) (z : Bool) → b x ≡ z → keep b (x ∷ []) ≡ consIf z x []
 unfolding keep

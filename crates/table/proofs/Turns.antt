@@ -16,7 +16,8 @@ use Rattle.record.specs.Part.{part, withPart}
 use Rattle.record.specs.Rows.{rowAt, rows, joined, table, consIf, keep}
 use Rattle.record.specs.Record.{pageOf, ownerOf, bodyOf, ownedBy, gone, entered, numbered, numberRows}
 use Rattle.record.proofs.Parts.{length-part, with-take, with-drop, with-length}
-use Rattle.table.proofs.Laws.{rows-more, rows-end, rows-start, keep-rows-more, keep-rows-end, keep-rows-rest, row-length, sub-mul, joined-cons, joined-rows, joined-append, length-rows, drop-rows, count-start, count-turn, count-end}
+use Rattle.record.proofs.Rows.{rows-more, rows-end, rows-start, keep-rows-more, keep-rows-end, row-width, sub-mul, joined-cons, joined-rows, joined-append, length-rows, drop-rows, count-start, count-turn, count-end}
+use Rattle.table.proofs.Laws.{keep-rows-rest}
 use Rattle.table.specs.Before.{NoneBefore, NoneFrom, start, pass}
 use Rattle.table.proofs.Moves.{lent-back, lent-length, slide-stays}
 
@@ -134,7 +135,7 @@ number-all x next m o t k j inv q =
 -- a row's record has 14 bytes
 body-length : (t : List ℕ) (j : ℕ) → j * 19 + 19 ≤ length t → length (bodyOf (rowAt 19 t j)) ≡ 14
 body-length t j h =
-    let e : length (rowAt 19 t j) ≡ 19 = row-length 19 t j h in
+    let e : length (rowAt 19 t j) ≡ 19 = row-width 19 t j h in
     length-take-le 14 (rowAt 19 t j) (omega arith)
 
 -- `log_row`: the copied bytes are the row's record
@@ -289,7 +290,7 @@ squeeze-more b m o t k j s i inv fit lt se₀ ie₀ =
     go : (w : Bool) → b y ≡ w → s ≡ cond w (withPart (k * 19) 19 t y) t → i ≡ cond w (k + 1) k → Squeezing b m o s i (j + 1)
     go true b-is se ie =
         let h : k * 19 + 19 ≤ length t = omega arith in
-        let ly : length y ≡ 19 = row-length 19 o j (omega arith) in
+        let ly : length y ≡ 19 = row-width 19 o j (omega arith) in
         let e : i * 19 ≡ k * 19 + 19 = omega arith in
         let f : (j + 1) * 19 ≡ i * 19 + (j - k) * 19 = omega arith in
         record {

@@ -2,3 +2,4 @@
 pub mod Stays
 pub mod Before
 pub mod Seen
+pub mod Marks

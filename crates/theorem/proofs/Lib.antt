@@ -5,6 +5,8 @@ pub mod Stands
 pub mod Shows
 pub mod Twins
 pub mod Reissue
+-- README's advice on a full table or log, of any sound tables
+pub mod Room
 -- and said of what C has: at a door, and over a firmware's days
 pub mod Doors
 pub mod Days

@@ -12,7 +12,7 @@ use borrow.Author.Tests.{ne-eqb}
 use Rattle.record.specs.Part.{part}
 use Rattle.record.specs.Rows.{keep, consIf}
 use Rattle.record.specs.Record.{committed, applied, onPage, committedOn, ownedBy, rowOf}
-use Rattle.table.proofs.Laws.{length-rowOf}
+use Rattle.record.proofs.Rows.{length-rowOf}
 use Rattle.rules.specs.declared.Answer.{Answer}
 use Rattle.rules.specs.declared.Answer.the-variants.{Done, NotDue, Refused}
 use Rattle.rules.specs.declared.Counts.{Counts}
@@ -21,10 +21,10 @@ use Rattle.rules.specs.declared.Verdict.the-variants.{Go, Refuse}
 use Rattle.rules.specs.Lent.{Lent, pageIn}
 use Rattle.rules.specs.Steps.{begun, updated, committing, aborted, restarted}
 use Rattle.rules.specs.Calls.{Outcome, settled, doneWith, judgeBegin, beginCall, readCall, judgeUpdate, updateCall, judgeCommit, commitCall, judgeAbort, abortCall, judgeRestart, restartCall}
-use Rattle.ventarico.proofs.Went.{begin-went, abort-went, commit-went, update-went}
+use Rattle.rules.proofs.Went.{begin-went, abort-went, commit-went, update-went}
 use Rattle.redo.proofs.View.{keep-append}
 use Rattle.redo.proofs.Views.{keep-all}
-use Rattle.redo.proofs.Numbered.{row-owner}
+use Rattle.record.proofs.Fields.{row-owner}
 use Rattle.history.specs.Past.{Past, begins, updates, aborts, startPage, shown}
 use Rattle.history.specs.Committed.{committedOf, numberedTo}
 use Rattle.history.specs.Run.{Call, Begin, Commit, Abort, Evict, Read, Update, Compact, Checkpoint, Close, Restart, outcome, taken, told, Run, no-format, call, restart, loss, loss-inside}
@@ -81,7 +81,7 @@ after-run r (then-call a n c) = call (after-run r a) n c
 after-run r (then-restart a) = restart (after-run r a)
 after-run r (then-loss a l f) = loss (after-run r a) l f
 after-run r (then-loss-inside a n minDel maxAge j e m l f) = loss-inside (after-run r a) n minDel maxAge j e m l f
-after-run r (then-no-format a size pages frames room span last why e) = no-format (after-run r a) size pages frames room span last why e
+after-run r (then-no-format a g last why e) = no-format (after-run r a) g last why e
 
 after-later : {h k : Past} {s t : Lent} → Run h s → After h s k t → Later h k
 after-later r here = now
@@ -89,7 +89,7 @@ after-later r (then-call a n c) = later-call (after-later r a) (run-right (after
 after-later r (then-restart {t} a) = later-restarted t (after-later r a)
 after-later r (then-loss a l f) = later-loss (after-later r a)
 after-later r (then-loss-inside a n minDel maxAge j e m l f) = later-loss (after-later r a)
-after-later r (then-no-format a size pages frames room span last why e) = after-later r a
+after-later r (then-no-format a g last why e) = after-later r a
 
 -- what is committed stands. The history h is of now, k is of any calls, losses and restarts later:
 -- what k has committed under the numbers up to the last of now is what h has committed, each update with its number, in the same order

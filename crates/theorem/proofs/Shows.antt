@@ -14,16 +14,16 @@ use Rattle.word.specs.Word.{num}
 use Rattle.record.specs.Part.{part}
 use Rattle.record.specs.Rows.{keep}
 use Rattle.record.specs.Record.{numberOf, committed, applied, onPage, committedOn, ownedBy}
-use Rattle.apply.proofs.Laws.{length-applied}
+use Rattle.record.proofs.Changes.{length-applied}
 use Rattle.rules.specs.declared.Answer.the-variants.{Done}
 use Rattle.rules.specs.declared.Counts.{Counts}
 use Rattle.rules.specs.declared.Verdict.{Verdict}
 use Rattle.rules.specs.declared.Verdict.the-variants.{Go, Refuse}
-use Rattle.rules.specs.Lent.{Lent, Durable, sizeOf, pagesOf, roomOf, stampAt, stampOf, onlineOf, pageIn}
+use Rattle.rules.specs.Lent.{Lent, Durable, sizeOf, pagesOf, onlineSizeOf, stampAt, stampOf, onlineOf, pageIn}
 use Rattle.rules.specs.Sound.{sound}
 use Rattle.rules.specs.Steps.{placeOf, fetchedPool, readStep, readBytes, enteringAll, restarted}
-use Rattle.rules.specs.Calls.{refuseIf, settled, doneWith, judgeRead, readCall, judgeRestart, restartCall}
-use Rattle.ventarico.proofs.Went.{read-went, read-whose}
+use Rattle.rules.specs.Calls.{refuseIf, verdictOf, settled, doneWith, judgeRead, readCall, judgeRestart, restartCall}
+use Rattle.rules.proofs.Went.{read-went, read-whose}
 use Rattle.redo.proofs.Loose.{≅-free}
 use Rattle.redo.proofs.Reader.{read-bytes, stored-up-to}
 use Rattle.readback.proofs.Pages.{page-length}
@@ -55,8 +55,8 @@ always-sound {h} {s} r n = let q = run-right r n in right-sound (q .ground) (q .
 
 -- a restart is accepted at any time: what is durable is sound, and the online table has room for what enters
 goes : {g : Ground} {done : List (List ℕ)} {h : Past} {s : Lent} → Down g done h s → judgeRestart s ≡ Go
-unfolding judgeRestart refuseIf
-goes {g} {done} {h} {s} d = rw (durable-sound g done s (d .durable) (d .past .formed) (d .areas), le-ltb (roomOf s) (length (enteringAll s)) (restart-fits d)) refl
+unfolding judgeRestart refuseIf verdictOf
+goes {g} {done} {h} {s} d = rw (durable-sound g done s (d .durable) (d .past .formed) (d .areas), le-ltb (onlineSizeOf s) (length (enteringAll s)) (restart-fits d)) refl
 
 pub restart-accepted : {h : Past} {s : Lent} → Run h s → restartCall s .answer ≡ Done (record { reads = 0; writes = 0; logs = 0 })
 unfolding restartCall restarted

@@ -9,6 +9,7 @@ use borrow.Author.Tests.{leb-true}
 use Rattle.word.specs.Word.{num}
 use Rattle.word.proofs.Tests.{and-both}
 use Rattle.record.specs.Record.{bodyOf, rowOf}
+use Rattle.rules.specs.declared.Params.{Params}
 use Rattle.rules.specs.declared.Answer.{Answer}
 use Rattle.rules.specs.declared.Answer.the-variants.{Done, NotDue, Refused}
 use Rattle.rules.specs.declared.Refusal.{Refusal}
@@ -18,7 +19,7 @@ use Rattle.rules.specs.Lent.{Lent, Lost, pagesOf}
 use Rattle.rules.specs.Sound.{between}
 use Rattle.rules.specs.Steps.{begun, readStep, readBytes, updated, owned, committing, aborted, evicted, due, compacted, closed, checkpointed, restarted, formatted}
 use Rattle.rules.specs.Calls.{Outcome, settled, doneWith, dueOr, judgeBegin, beginCall, judgeRead, readCall, judgeUpdate, updateCall, judgeCommit, commitCall, judgeAbort, abortCall, judgeEvict, evictCall, judgeCompact, compactCall, judgeClose, closeCall, judgeCheckpoint, checkpointCall, judgeRestart, restartCall, judgeFormat, formatCall}
-use Rattle.ventarico.proofs.Went.{begin-went, abort-went, evict-went, commit-went, read-went, update-went, update-whose, compact-went, format-went}
+use Rattle.rules.proofs.Went.{begin-went, abort-went, evict-went, commit-went, read-went, update-went, update-whose, compact-went, format-went}
 use Rattle.history.specs.Past.{Past, fresh, begins, updates, commits, aborts, falls, rises}
 use Rattle.history.specs.Run.{Call, Begin, Commit, Abort, Evict, Read, Update, Compact, Checkpoint, Close, Restart, outcome, taken, told, Fits, afterLoss, afterSteps, Run, format, no-format, call, restart, loss, loss-inside}
 use Rattle.history.proofs.Right.{Ground, Right, Down}
@@ -177,19 +178,19 @@ stands-loss l f (up g done n r) = down g done refl (keeps-loss l f r)
 stands-loss l f (down g done n d) = down g done refl (keeps-loss-down l f d)
 
 -- a format: refused, nothing changes; else a new history
-stands-format : (s : Lent) (size pages frames room span last : ℕ) → last ≤ 4294967295 → formatCall s size pages frames room span last .answer ≡ Done (record { reads = 0; writes = 0; logs = 0 }) → Stands (fresh size pages last (s .durable .stored)) (formatCall s size pages frames room span last .lent)
+stands-format : (s : Lent) (g : Params) (last : ℕ) → formatCall s g last .answer ≡ Done (record { reads = 0; writes = 0; logs = 0 }) → Stands (fresh g last (s .durable .stored)) (formatCall s g last .lent)
 unfolding formatCall fresh
-stands-format s size pages frames room span last m e = go (judgeFormat s size pages frames room span) refl e
+stands-format s g last e = go (judgeFormat s g last) refl e
   where
-    go : (v : Verdict) → judgeFormat s size pages frames room span ≡ v → settled v s [] (doneWith (formatted s size pages frames room span last) []) .answer ≡ Done (record { reads = 0; writes = 0; logs = 0 }) → Stands (fresh size pages last (s .durable .stored)) (settled v s [] (doneWith (formatted s size pages frames room span last) []) .lent)
-    go Go f k = up (record { size = size; pages = pages; start = s .durable .stored; base = last }) [] refl (let w = format-went s size pages frames room span f in format-right s size pages frames room span last m (w .0) (w .2))
+    go : (v : Verdict) → judgeFormat s g last ≡ v → settled v s [] (doneWith (formatted s g last) []) .answer ≡ Done (record { reads = 0; writes = 0; logs = 0 }) → Stands (fresh g last (s .durable .stored)) (settled v s [] (doneWith (formatted s g last) []) .lent)
+    go Go f k = up (record { size = g .size; pages = g .pages; start = s .durable .stored; base = last }) [] refl (let w = format-went s g last f in format-right s g last (w .3) (w .0) (w .2))
     go (Refuse why) f k = let z : _≡_ {A = Bool} false true = cc in absurd (mathlib.Core.Bool.false≢true z)
 
-stands-no-format : {h : Past} {s : Lent} → Stands h s → (size pages frames room span last : ℕ) (why : Refusal) → formatCall s size pages frames room span last .answer ≡ Refused why → Stands h (formatCall s size pages frames room span last .lent)
+stands-no-format : {h : Past} {s : Lent} → Stands h s → (g : Params) (last : ℕ) (why : Refusal) → formatCall s g last .answer ≡ Refused why → Stands h (formatCall s g last .lent)
 unfolding formatCall
-stands-no-format {h} {s} st size pages frames room span last why e = go (judgeFormat s size pages frames room span) e
+stands-no-format {h} {s} st g last why e = go (judgeFormat s g last) e
   where
-    go : (v : Verdict) → settled v s [] (doneWith (formatted s size pages frames room span last) []) .answer ≡ Refused why → Stands h (settled v s [] (doneWith (formatted s size pages frames room span last) []) .lent)
+    go : (v : Verdict) → settled v s [] (doneWith (formatted s g last) []) .answer ≡ Refused why → Stands h (settled v s [] (doneWith (formatted s g last) []) .lent)
     go Go k = let z : _≡_ {A = Bool} false true = cc in absurd (mathlib.Core.Bool.false≢true z)
     go (Refuse r) k = st
 
@@ -207,8 +208,8 @@ fits-same {g} {done} {h} {s} {t} r q e l f =
 -- every run stands
 pub run-stands : {h : Past} {s : Lent} → Run h s → Stands h s
 unfolding falls
-run-stands (format s size pages frames room span last m e) = stands-format s size pages frames room span last m e
-run-stands (no-format r size pages frames room span last why e) = stands-no-format (run-stands r) size pages frames room span last why e
+run-stands (format s g last e) = stands-format s g last e
+run-stands (no-format r g last why e) = stands-no-format (run-stands r) g last why e
 run-stands (call r n c) = stands-call n (run-stands r) c
 run-stands (restart r) = stands-restart (run-stands r)
 run-stands (loss r l f) = stands-loss l f (run-stands r)

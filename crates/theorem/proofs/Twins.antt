@@ -6,7 +6,8 @@ use mathlib.Core.Logic.{inl, inr}
 use mathlib.Core.Bool.{true, false, true≢false, false≢true}
 use mathlib.Core.List.{List, []}
 use lib.ListN.{length}
-use Rattle.record.specs.Record.{rowOf}
+use Rattle.record.specs.Record.{committed, rowOf}
+use Rattle.rules.specs.declared.Params.{Params}
 use Rattle.rules.specs.declared.Refusal.{Refusal}
 use Rattle.rules.specs.declared.Refusal.the-variants.{OnlineFull, LogFull}
 use Rattle.rules.specs.declared.Answer.{Answer}
@@ -15,11 +16,12 @@ use Rattle.rules.specs.declared.Verdict.the-variants.{Go, Refuse}
 use Rattle.rules.specs.Lent.{Lent}
 use Rattle.rules.specs.Steps.{Left, begun, readStep, readBytes, updated, committing, aborted}
 use Rattle.rules.specs.Calls.{Outcome, settled, doneWith, beginCall, readCall, updateCall, commitCall, abortCall, restartCall, formatCall}
-use Rattle.history.specs.Past.{Past, fresh, falls}
-use Rattle.history.specs.Run.{Call, Begin, Commit, Abort, Evict, Read, Update, Compact, Checkpoint, Close, Restart, outcome, taken, told, Run, format, no-format, call, restart, loss, loss-inside}
-use Rattle.history.specs.Twins.{transaction, upkeep, isFull, full, Agree, acted, not-due, refused, Aside, keeping, not-formatted, Loses, between-calls, inside, Twins, formats, both, first, second, losses, restarts}
+use Rattle.history.specs.Past.{Past, fresh, falls, rises}
+use Rattle.history.specs.Run.{Call, Begin, Commit, Abort, Evict, Read, Update, Compact, Checkpoint, Close, Restart, outcome, taken, told, afterLoss, Run, format, no-format, call, restart, loss, loss-inside}
+use Rattle.history.specs.Twins.{transaction, upkeep, isFull, full, Agree, acted, not-due, refused, Aside, keeping, not-formatted, lost-again, Loses, between-calls, inside, Twins, formats, both, first, second, losses, restarts}
+use Rattle.rules.proofs.Every.{keep-within}
 use Rattle.history.proofs.Saying.{Unless, begin-said, read-said, update-said, commit-said, abort-said}
-use Rattle.theorem.proofs.Stands.{told-silent}
+use Rattle.theorem.proofs.Stands.{told-up, told-silent}
 use Rattle.theorem.proofs.Shows.{Rightly, run-right, restart-accepted, read-right}
 
 -- the answers agree and the buffers are equal
@@ -61,10 +63,25 @@ taken-aside h (Checkpoint minDel maxAge) e = refl
 taken-aside h Close e = refl
 taken-aside h Restart e = absurd (false≢true e)
 
+-- a history that awaits a restart is as after a loss: one more changes nothing of it
+falls-twice : (h : Past) → falls (falls h) ≡ falls h
+unfolding falls
+falls-twice h = ap (λ (l : List (List ℕ)). record { size = h .size; pages = h .pages; start = h .start; last = h .last; made = l; live = λ (y : ℕ). false; down = true }) (keep-within committed committed (λ r e. e) (h .made))
+
+falls-down : {h : Past} {s : Lent} → Run h s → h .down ≡ true → falls h ≡ h
+unfolding fresh taken rises told
+falls-down (format s g last e) n = absurd (false≢true n)
+falls-down (no-format r g last why e) n = falls-down r n
+falls-down (call {h} {s} r m c) n = absurd (false≢true (sym (told-up h c (outcome s c .answer) m) ∙ n))
+falls-down (restart {h} {s} r) n = absurd (false≢true (sym (ap (λ (a : Answer). told h Restart a .down) (restart-accepted r)) ∙ n))
+falls-down (loss {h} r l f) n = falls-twice h
+falls-down (loss-inside {h} r m minDel maxAge j e k l f) n = falls-twice h
+
 -- what one store may do alone, and its losses, are a run's
 run-aside : {h : Past} {s t : Lent} → Run h s → Aside h s t → Run h t
 run-aside {h} {s} r (keeping n c e) = subst (λ (k : Past). Run k (outcome s c .lent)) (told-silent h c (taken-aside h c e) (outcome s c .answer)) (call r n c)
-run-aside r (not-formatted size pages frames room span last why e) = no-format r size pages frames room span last why e
+run-aside r (not-formatted g last why e) = no-format r g last why e
+run-aside {h} {s} r (lost-again n l f) = subst (λ (k : Past). Run k (afterLoss s l)) (falls-down r n) (loss r l f)
 
 run-loses : {h : Past} {s t : Lent} → Run h s → Loses h s t → Run (falls h) t
 run-loses r (between-calls l f) = loss r l f
@@ -100,10 +117,15 @@ module _ {h : Past} {s₁ s₂ : Lent} (r₁ : Rightly h s₁) (r₂ : Rightly h
   right-agree Close t f₁ f₂ = absurd (false≢true t)
   right-agree Restart t f₁ f₂ = absurd (false≢true t)
 
+-- a new history knows of the parameters the page size and the pages alone
+fresh-same : (g₁ g₂ : Params) (last : ℕ) {k l : List ℕ} → g₁ .size ≡ g₂ .size → g₁ .pages ≡ g₂ .pages → k ≡ l → fresh g₁ last k ≡ fresh g₂ last l
+unfolding fresh
+fresh-same g₁ g₂ last e f h = rw (e, f, h) refl
+
 -- each of two stores side by side is a run of the one history
 pub twin-runs : {h : Past} {s₁ s₂ : Lent} → Twins h s₁ s₂ → Run h s₁ × Run h s₂
-twin-runs (formats s₁ s₂ size pages last frames₁ room₁ span₁ frames₂ room₂ span₂ m e a₁ a₂) =
-    (format s₁ size pages frames₁ room₁ span₁ last m a₁, subst (λ (l : List ℕ). Run (fresh size pages last l) (formatCall s₂ size pages frames₂ room₂ span₂ last .lent)) (sym e) (format s₂ size pages frames₂ room₂ span₂ last m a₂))
+twin-runs (formats s₁ s₂ g₁ g₂ last es ep e a₁ a₂) =
+    (format s₁ g₁ last a₁, subst (λ (q : Past). Run q (formatCall s₂ g₂ last .lent)) (sym (fresh-same g₁ g₂ last es ep e)) (format s₂ g₂ last a₂))
 twin-runs (both {h} {s₁} {s₂} t n c k f₁ f₂) =
     let r : Run h s₁ × Run h s₂ = twin-runs t in
     let a : Agree (outcome s₁ c .answer) (outcome s₂ c .answer) = right-agree (run-right (r .0) n) (run-right (r .1) n) c k f₁ f₂ .0 in

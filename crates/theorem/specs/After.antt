@@ -4,6 +4,7 @@ use mathlib.Core.Path.{_≡_}
 use mathlib.Core.Bool.{Bool, true, false}
 use lib.Dec.{eqb}
 use Rattle.rules.specs.declared.Answer.the-variants.{Done, Refused}
+use Rattle.rules.specs.declared.Params.{Params}
 use Rattle.rules.specs.declared.Counts.{Counts}
 use Rattle.rules.specs.declared.Refusal.{Refusal}
 use Rattle.rules.specs.declared.Verdict.the-variants.{Go}
@@ -19,7 +20,7 @@ pub data After (h : Past) (s : Lent) : Past → Lent → Type 0 where
   then-restart : {k : Past} {t : Lent} → After h s k t → After h s (told k Restart (restartCall t .answer)) (restartCall t .lent)
   then-loss : {k : Past} {t : Lent} → After h s k t → (l : Lost) → Fits t l → After h s (falls k) (afterLoss t l)
   then-loss-inside : {k : Past} {t : Lent} → After h s k t → k .down ≡ false → (minDel maxAge j : ℕ) → judgeCheckpoint t minDel maxAge ≡ Go → j ≤ pagesOf t + 1 → (l : Lost) → Fits t l → After h s (falls k) (afterLoss (afterSteps minDel maxAge j t) l)
-  then-no-format : {k : Past} {t : Lent} → After h s k t → (size pages frames room span last : ℕ) (r : Refusal) → formatCall t size pages frames room span last .answer ≡ Refused r → After h s k (formatCall t size pages frames room span last .lent)
+  then-no-format : {k : Past} {t : Lent} → After h s k t → (g : Params) (last : ℕ) (r : Refusal) → formatCall t g last .answer ≡ Refused r → After h s k (formatCall t g last .lent)
 
 -- what may be called during a claim under the number x: updates under x, any reads, and evict, compact, close and checkpoint
 unfoldable pub inClaim : ℕ → Call → Bool

@@ -1,9 +1,10 @@
--- An ordinary firmware: it lends each call what the last one left, and when the power is back it calls restart before anything else.
-use Prim.Native.Nat.{ℕ, zero, suc, _+_, _≤_}
+-- An ordinary firmware: it lends each call what the last one left, and when the power is back it calls restart, or format, before anything else.
+use Prim.Native.Nat.{ℕ, zero, suc, _+_}
 use mathlib.Core.Bool.{cond}
 use mathlib.Core.List.{List, [], _∷_}
 use lib.ListN.{length}
 use lib.Dec.{leb}
+use Rattle.rules.specs.declared.Params.{Params}
 use Rattle.rules.specs.declared.Answer.{Answer}
 use Rattle.rules.specs.declared.Answer.the-variants.{Done, NotDue, Refused}
 use Rattle.rules.specs.declared.Verdict.{Verdict}
@@ -13,13 +14,18 @@ use Rattle.rules.specs.Calls.{formatCall, judgeCheckpoint}
 use Rattle.history.specs.Past.{Past, fresh, falls}
 use Rattle.history.specs.Run.{Call, Restart, outcome, told, afterLoss, afterSteps}
 
--- a call with any arguments; a format (its last number is 32 bits wide in C); a loss between calls; a loss inside a checkpoint, after its first j steps.
--- `hold a i` is byte i of the lost area a (tables, online, pool) when the power is back: anything at all
+-- what is called first when the power is back: restart; or a format, and restart if it is refused
+pub data First : Type 0 where
+  Restarts : First
+  FormatsFirst : Params → ℕ → First
+
+-- a call with any arguments, a format too; a loss between calls; a loss inside a checkpoint, after its first j steps.
+-- `hold a i` is byte i of the lost area a (tables, online, pool) when the power is back: anything at all. `again` is a loss more for each, before anything is called
 pub data Event : Type 0 where
   Calls : Call → Event
-  Formats : (size pages frames room span last : ℕ) → last ≤ 4294967295 → Event
-  Loses : (hold : ℕ → ℕ → ℕ) → Event
-  LosesInside : (minDel maxAge j : ℕ) (hold : ℕ → ℕ → ℕ) → Event
+  Formats : Params → ℕ → Event
+  Loses : (hold : ℕ → ℕ → ℕ) (again : List (ℕ → ℕ → ℕ)) → First → Event
+  LosesInside : (minDel maxAge j : ℕ) (hold : ℕ → ℕ → ℕ) (again : List (ℕ → ℕ → ℕ)) → First → Event
 
 -- n bytes: f 0, f 1, and so on
 unfoldable pub bytes : ℕ → (ℕ → ℕ) → List ℕ
@@ -47,16 +53,40 @@ anew NotDue h k = h
 anew (Refused r) h k = h
 
 -- a store after its first format
-abbrev pub freshly : Lent → ℕ → ℕ → ℕ → ℕ → ℕ → ℕ → Store
-freshly s size pages frames room span last = record { past = fresh size pages last (s .durable .stored); lent = formatCall s size pages frames room span last .lent }
+abbrev pub freshly : Lent → Params → ℕ → Store
+freshly s g last = record { past = fresh g last (s .durable .stored); lent = formatCall s g last .lent }
 
 -- a call: the history goes by its answer
 unfoldable pub called : Store → Call → Store
 called d c = record { past = told (d .past) c (outcome (d .lent) c .answer); lent = outcome (d .lent) c .lent }
 
--- power is lost when the bytes are t; it is back, and restart is called
-unfoldable pub back : Past → Lent → Lost → Store
-back h t l = called (record { past = falls h; lent = afterLoss t l }) Restart
+-- a format: a new history if it is accepted
+unfoldable pub formats : Store → Params → ℕ → Store
+formats d g last =
+    record {
+      past = anew (formatCall (d .lent) g last .answer) (d .past) (fresh g last (d .lent .durable .stored));
+      lent = formatCall (d .lent) g last .lent;
+    }
+
+-- power is lost when the history is h and the bytes are t
+unfoldable pub fallen : Past → Lent → Lost → Store
+fallen h t l = record { past = falls h; lent = afterLoss t l }
+
+-- and lost again, before anything is called
+unfoldable pub lostAgain : Store → List (ℕ → ℕ → ℕ) → Store
+lostAgain d [] = d
+lostAgain d (hold ∷ again) = lostAgain (fallen (d .past) (d .lent) (filled (d .lent) hold)) again
+
+-- a first format that is refused is followed by restart
+unfoldable pub orRestart : Answer → Store → Store
+orRestart (Done counts) d = d
+orRestart NotDue d = called d Restart
+orRestart (Refused r) d = called d Restart
+
+-- the power is back
+unfoldable pub back : Store → First → Store
+back d Restarts = called d Restart
+back d (FormatsFirst g last) = orRestart (formatCall (d .lent) g last .answer) (formats d g last)
 
 -- the bytes inside a checkpoint, after its first j steps; a checkpoint that is refused, or has no such step, has left them alone
 unfoldable pub bytesInside : Verdict → ℕ → ℕ → ℕ → Lent → Lent
@@ -66,13 +96,10 @@ bytesInside (Refuse r) minDel maxAge j s = s
 -- what the store is after an event
 unfoldable pub next : Store → Event → Store
 next d (Calls c) = called d c
-next d (Formats size pages frames room span last m) =
-    record {
-      past = anew (formatCall (d .lent) size pages frames room span last .answer) (d .past) (fresh size pages last (d .lent .durable .stored));
-      lent = formatCall (d .lent) size pages frames room span last .lent;
-    }
-next d (Loses hold) = back (d .past) (d .lent) (filled (d .lent) hold)
-next d (LosesInside minDel maxAge j hold) = back (d .past) (bytesInside (judgeCheckpoint (d .lent) minDel maxAge) minDel maxAge j (d .lent)) (filled (d .lent) hold)
+next d (Formats g last) = formats d g last
+next d (Loses hold again first) = back (lostAgain (fallen (d .past) (d .lent) (filled (d .lent) hold)) again) first
+next d (LosesInside minDel maxAge j hold again first) =
+    back (lostAgain (fallen (d .past) (bytesInside (judgeCheckpoint (d .lent) minDel maxAge) minDel maxAge j (d .lent)) (filled (d .lent) hold)) again) first
 
 -- and after a day's events
 unfoldable pub day : Store → List Event → Store

@@ -1,4 +1,3 @@
 -- Laws of the doors.
 pub mod Laws
-pub mod Went
 pub mod Once

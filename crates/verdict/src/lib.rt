@@ -6,9 +6,11 @@ ghost use Prim.Native.Nat.{_≤_};
 ghost use lib.ListN.{length, getD};
 ghost use lib.Dec.{eqb};
 ghost use Rattle.rules.specs.Sound.{inRange, exactLengths};
-ghost use Rattle.rules.specs.Lent.{lentOf, entryAt};
+ghost use Rattle.rules.specs.Lent.{entryAt};
+ghost use Rattle.rules.specs.Areas.{before};
 ghost use Rattle.rules.specs.Calls.{judgeBegin, judgeRead, judgeUpdate, judgeCommit, judgeAbort, judgeEvict, judgeCompact, judgeClose, judgeCheckpoint, judgeRestart, judgeFormat};
 use rules::Bad;
+use rules::Params;
 use rules::Refusal;
 use rules::Verdict;
 
@@ -22,7 +24,7 @@ pub fn judge_begin(
     pool: &[u8],
     x: u32,
 ) -> Verdict
-    ensures { λ r. ⌜ r ≡ judgeBegin (lentOf (now (fixed .entry)) (now (marks .entry)) (now (log .entry)) (now (stored .entry)) (now (tables .entry)) (now (online .entry)) (now (pool .entry))) x ⌝ }
+    ensures { λ r. ⌜ r ≡ judgeBegin (before fixed marks log stored tables online pool) x ⌝ }
 {
     if !sound::is_sound(fixed, marks, log, stored, tables, online, pool) {
         return Verdict::Refuse(Refusal::NotSound);
@@ -40,7 +42,7 @@ pub fn judge_abort(
     pool: &[u8],
     x: u32,
 ) -> Verdict
-    ensures { λ r. ⌜ r ≡ judgeAbort (lentOf (now (fixed .entry)) (now (marks .entry)) (now (log .entry)) (now (stored .entry)) (now (tables .entry)) (now (online .entry)) (now (pool .entry))) x ⌝ }
+    ensures { λ r. ⌜ r ≡ judgeAbort (before fixed marks log stored tables online pool) x ⌝ }
 {
     if !sound::is_sound(fixed, marks, log, stored, tables, online, pool) {
         return Verdict::Refuse(Refusal::NotSound);
@@ -57,7 +59,7 @@ pub fn judge_close(
     online: &[u8],
     pool: &[u8],
 ) -> Verdict
-    ensures { λ r. ⌜ r ≡ judgeClose (lentOf (now (fixed .entry)) (now (marks .entry)) (now (log .entry)) (now (stored .entry)) (now (tables .entry)) (now (online .entry)) (now (pool .entry))) ⌝ }
+    ensures { λ r. ⌜ r ≡ judgeClose (before fixed marks log stored tables online pool) ⌝ }
 {
     if !sound::is_sound(fixed, marks, log, stored, tables, online, pool) {
         return Verdict::Refuse(Refusal::NotSound);
@@ -76,7 +78,7 @@ pub fn judge_checkpoint(
     min_del: u32,
     max_age: u32,
 ) -> Verdict
-    ensures { λ r. ⌜ r ≡ judgeCheckpoint (lentOf (now (fixed .entry)) (now (marks .entry)) (now (log .entry)) (now (stored .entry)) (now (tables .entry)) (now (online .entry)) (now (pool .entry))) «min_del» «max_age» ⌝ }
+    ensures { λ r. ⌜ r ≡ judgeCheckpoint (before fixed marks log stored tables online pool) «min_del» «max_age» ⌝ }
 {
     if !sound::is_sound(fixed, marks, log, stored, tables, online, pool) {
         return Verdict::Refuse(Refusal::NotSound);
@@ -96,12 +98,12 @@ pub fn judge_compact(
     min_del: u32,
     max_age: u32,
 ) -> Verdict
-    ensures { λ r. ⌜ r ≡ judgeCompact (lentOf (now (fixed .entry)) (now (marks .entry)) (now (log .entry)) (now (stored .entry)) (now (tables .entry)) (now (online .entry)) (now (pool .entry))) p «min_del» «max_age» ⌝ }
+    ensures { λ r. ⌜ r ≡ judgeCompact (before fixed marks log stored tables online pool) p «min_del» «max_age» ⌝ }
 {
     if !sound::is_sound(fixed, marks, log, stored, tables, online, pool) {
         return Verdict::Refuse(Refusal::NotSound);
     }
-    let given = durable::params_of(fixed);
+    let given = layout::params_of(fixed);
     judge::may_compact(given.pages as usize, p, min_del, max_age)
 }
 
@@ -115,12 +117,12 @@ pub fn judge_evict(
     pool: &[u8],
     p: u32,
 ) -> Verdict
-    ensures { λ r. ⌜ r ≡ judgeEvict (lentOf (now (fixed .entry)) (now (marks .entry)) (now (log .entry)) (now (stored .entry)) (now (tables .entry)) (now (online .entry)) (now (pool .entry))) p ⌝ }
+    ensures { λ r. ⌜ r ≡ judgeEvict (before fixed marks log stored tables online pool) p ⌝ }
 {
     if !sound::is_sound(fixed, marks, log, stored, tables, online, pool) {
         return Verdict::Refuse(Refusal::NotSound);
     }
-    let given = durable::params_of(fixed);
+    let given = layout::params_of(fixed);
     let entry = entry_of(tables, given.frames as usize, p);
     judge::may_evict(given.pages as usize, entry, p)
 }
@@ -139,12 +141,12 @@ pub fn judge_read(
     offset: u32,
     w: u32,
 ) -> Verdict
-    ensures { λ r. ⌜ r ≡ judgeRead (lentOf (now (fixed .entry)) (now (marks .entry)) (now (log .entry)) (now (stored .entry)) (now (tables .entry)) (now (online .entry)) (now (pool .entry))) room x p offset w ⌝ }
+    ensures { λ r. ⌜ r ≡ judgeRead (before fixed marks log stored tables online pool) room x p offset w ⌝ }
 {
     if !sound::is_sound(fixed, marks, log, stored, tables, online, pool) {
         return Verdict::Refuse(Refusal::NotSound);
     }
-    let given = durable::params_of(fixed);
+    let given = layout::params_of(fixed);
     let m = word::load(tables, 0, 2) as usize;
     judge::may_read(
         given.size as usize,
@@ -175,18 +177,17 @@ pub fn judge_update(
     kind: u32,
     v: u64,
 ) -> Verdict
-    ensures { λ r. ⌜ r ≡ judgeUpdate (lentOf (now (fixed .entry)) (now (marks .entry)) (now (log .entry)) (now (stored .entry)) (now (tables .entry)) (now (online .entry)) (now (pool .entry))) x p offset w kind v ⌝ }
+    ensures { λ r. ⌜ r ≡ judgeUpdate (before fixed marks log stored tables online pool) x p offset w kind v ⌝ }
 {
     if !sound::is_sound(fixed, marks, log, stored, tables, online, pool) {
         return Verdict::Refuse(Refusal::NotSound);
     }
-    let given = durable::params_of(fixed);
+    let given = layout::params_of(fixed);
     let m = word::load(tables, 0, 2) as usize;
-    let room = given.room as usize;
     judge::may_update(
         given.size as usize,
         given.pages as usize,
-        room - m,
+        given.online as usize,
         tables,
         online,
         m,
@@ -209,12 +210,12 @@ pub fn judge_commit(
     pool: &[u8],
     x: u32,
 ) -> Verdict
-    ensures { λ r. ⌜ r ≡ judgeCommit (lentOf (now (fixed .entry)) (now (marks .entry)) (now (log .entry)) (now (stored .entry)) (now (tables .entry)) (now (online .entry)) (now (pool .entry))) x ⌝ }
+    ensures { λ r. ⌜ r ≡ judgeCommit (before fixed marks log stored tables online pool) x ⌝ }
 {
     if !sound::is_sound(fixed, marks, log, stored, tables, online, pool) {
         return Verdict::Refuse(Refusal::NotSound);
     }
-    let given = durable::params_of(fixed);
+    let given = layout::params_of(fixed);
     let m = word::load(tables, 0, 2) as usize;
     let n = word::load(marks, 8, 4) as usize;
     let last = word::load(marks, 0, 4);
@@ -222,7 +223,7 @@ pub fn judge_commit(
         return Verdict::Refuse(Refusal::Argument(Bad::Number));
     }
     let k = table::count_owned(online, m, x as u8);
-    judge::may_commit(given.span as usize, n, last, tables, k, x)
+    judge::may_commit(given.log as usize, n, last, tables, k, x)
 }
 
 pub fn judge_restart(
@@ -234,14 +235,14 @@ pub fn judge_restart(
     online: &[u8],
     pool: &[u8],
 ) -> Verdict
-    ensures { λ r. ⌜ r ≡ judgeRestart (lentOf (now (fixed .entry)) (now (marks .entry)) (now (log .entry)) (now (stored .entry)) (now (tables .entry)) (now (online .entry)) (now (pool .entry))) ⌝ }
+    ensures { λ r. ⌜ r ≡ judgeRestart (before fixed marks log stored tables online pool) ⌝ }
 {
     if !durable::sound_durable(fixed, marks, log, stored, tables, online, pool) {
         return Verdict::Refuse(Refusal::NotSound);
     }
-    let given = durable::params_of(fixed);
+    let given = layout::params_of(fixed);
     let k = restart::count_entering(fixed, marks, log, stored, tables, online, pool);
-    if (given.room as usize) < k {
+    if (given.online as usize) < k {
         return Verdict::Refuse(Refusal::OnlineFull);
     }
     Verdict::Go
@@ -255,37 +256,16 @@ pub fn judge_format(
     tables: &[u8],
     online: &[u8],
     pool: &[u8],
-    size: u32,
-    pages: u32,
-    frames: u32,
-    room: u32,
-    span: u32,
+    g: Params,
+    last: u32,
 ) -> Verdict
-    ensures { λ r. ⌜ r ≡ judgeFormat (lentOf (now (fixed .entry)) (now (marks .entry)) (now (log .entry)) (now (stored .entry)) (now (tables .entry)) (now (online .entry)) (now (pool .entry))) size pages frames room span ⌝ }
+    ensures { λ r. ⌜ r ≡ judgeFormat (before fixed marks log stored tables online pool) g last ⌝ }
 {
-    if !durable::in_range(
-        size as u64,
-        pages as u64,
-        frames as u64,
-        room as u64,
-        span as u64,
-    ) {
+    // every number of 32 bits is in L's range
+    if !durable::in_range(g) {
         return Verdict::Refuse(Refusal::Argument(Bad::Parameter));
     }
-    if !lengths(
-        fixed,
-        marks,
-        log,
-        stored,
-        tables,
-        online,
-        pool,
-        size,
-        pages,
-        frames,
-        room,
-        span,
-    ) {
+    if !lengths(fixed, marks, log, stored, tables, online, pool, g) {
         return Verdict::Refuse(Refusal::Argument(Bad::Lent));
     }
     Verdict::Go
@@ -312,29 +292,13 @@ fn lengths(
     tables: &[u8],
     online: &[u8],
     pool: &[u8],
-    size: u32,
-    pages: u32,
-    frames: u32,
-    room: u32,
-    span: u32,
+    g: Params,
 ) -> bool
-    requires { ⌜ inRange size pages frames room span ≡ true ⌝ }
-    ensures { λ r. ⌜ r ≡ (eqb (length (now (fixed .entry))) 20 && exactLengths (lentOf (now (fixed .entry)) (now (marks .entry)) (now (log .entry)) (now (stored .entry)) (now (tables .entry)) (now (online .entry)) (now (pool .entry))) size pages frames room span) ⌝ }
+    requires { ⌜ inRange g ≡ true ⌝ }
+    ensures { λ r. ⌜ r ≡ (eqb (length (now (fixed .entry))) 20 && exactLengths (before fixed marks log stored tables online pool) g) ⌝ }
 {
     if fixed.len() != 20 {
         return false;
     }
-    durable::exact_lengths(
-        marks,
-        log,
-        stored,
-        tables,
-        online,
-        pool,
-        size as u64,
-        pages as u64,
-        frames as u64,
-        room as u64,
-        span as u64,
-    )
+    durable::exact_lengths(fixed, marks, log, stored, tables, online, pool, g)
 }

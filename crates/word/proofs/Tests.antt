@@ -2,7 +2,7 @@
 use Prim.Native.Nat.{ℕ}
 use native.Mathlib.Omega.{arith}
 use mathlib.Core.Path.{_≡_, refl, sym, subst, _∙_}
-use mathlib.Core.Bool.{Bool, true, false, not, _&&_, _||_}
+use mathlib.Core.Bool.{Bool, true, false, not, _&&_, _||_, and-false}
 use lib.Dec.{eqb}
 use borrow.Author.Tests.{eqb-true, not-true, not-false}
 
@@ -13,6 +13,37 @@ and-both false b h = let z : _≡_ {A = ℕ} 0 1 = cc in absurd (omega arith)
 
 pub and-in : (a b : Bool) → a ≡ true → b ≡ true → (a && b) ≡ true
 and-in a b h k = rw (h, k)
+
+-- two tests and two more, the inner ones the other way round
+pub and-swap : (x y u v : Bool) → (x && y && (u && v)) ≡ (x && u && (y && v))
+and-swap true true u v = refl
+and-swap true false u v = sym (and-false u)
+and-swap false y u v = refl
+
+-- tests in a row
+pub and-three : (a b c : Bool) → (a && b && c) ≡ true → (a ≡ true) × (b ≡ true) × (c ≡ true)
+and-three a b c h =
+    let x = and-both (a && b) c h in
+    let y = and-both a b (x .0) in
+    (y .0, y .1, x .1)
+
+pub and-five : (a b c d e : Bool) → (a && b && c && d && e) ≡ true → (a ≡ true) × (b ≡ true) × (c ≡ true) × (d ≡ true) × (e ≡ true)
+and-five a b c d e h =
+    let x = and-three (a && b && c) d e h in
+    let y = and-three a b c (x .0) in
+    (y .0, y .1, y .2, x .1, x .2)
+
+pub and-six : (a b c d e f : Bool) → (a && b && c && d && e && f) ≡ true → (a ≡ true) × (b ≡ true) × (c ≡ true) × (d ≡ true) × (e ≡ true) × (f ≡ true)
+and-six a b c d e f h =
+    let x = and-both (a && b && c && d && e) f h in
+    let y = and-five a b c d e (x .0) in
+    (y .0, y .1, y .2, y .3, y .4, x .1)
+
+pub and-nine : (a b c d e f g h i : Bool) → (a && b && c && d && e && f && g && h && i) ≡ true → (a ≡ true) × (b ≡ true) × (c ≡ true) × (d ≡ true) × (e ≡ true) × (f ≡ true) × (g ≡ true) × (h ≡ true) × (i ≡ true)
+and-nine a b c d e f g h i k =
+    let x = and-five (a && b && c && d && e) f g h i k in
+    let y = and-five a b c d e (x .0) in
+    (y .0, y .1, y .2, y .3, y .4, x .1, x .2, x .3, x .4)
 
 -- what holds of four numbers holds of one that is among them
 pub among-four : (P : ℕ → Type 0) (n a b c d : ℕ) → (eqb n a || eqb n b || eqb n c || eqb n d) ≡ true → P a → P b → P c → P d → P n

@@ -2,7 +2,8 @@
 use borrow.Author.Needs.{needs}
 use borrow.Author.Tests.{not-true, not-false}
 use mathlib.Core.Path.{sym, _∙_}
-use Rattle.apply.proofs.Laws.{room-both, change-room, change-none}
+use Rattle.record.proofs.Changes.{room-both}
+use Rattle.apply.proofs.Laws.{change-room, change-none}
 use Rattle.apply.proofs.write_change.Statement.{statement}
 use Rattle.apply.proofs.write_change.Tie as tie
 

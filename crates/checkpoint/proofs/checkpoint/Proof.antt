@@ -1,7 +1,7 @@
 -- `checkpoint::checkpoint` meets its contract: the marks are those of the committed rows, and close comes after the last compaction.
-use denote.Ref.{now}
 use borrow.Author.Needs.{needs}
-use Rattle.rules.specs.Lent.{lentOf}
+use native.Mathlib.Omega.{arith}
+use Rattle.rules.specs.Areas.{areas}
 use Rattle.checkpoint.proofs.Laws.{noted-all, after-all}
 use Rattle.checkpoint.proofs.checkpoint.Statement.{statement}
 use Rattle.checkpoint.proofs.checkpoint.Tie as tie
@@ -23,7 +23,7 @@ compact-all-requires c κs =
     let s = c .before .before .before .before .before .before .before .before .before .before .before .before .before .before .before .before .before .before .before in
     let a = s .args in
     let k = c .before .before .before .before .before .before .before .mark-committed in
-    (s .pre .0, s .pre .1, noted-all (k .last .0) (lentOf (now (a .fixed)) (now (a .marks)) (now (a .log)) (now (a .stored)) (now (a .tables)) (now (a .online)) (now (a .pool))) _ (c .before .before .before .before .before .before .before .before .before .before .load .ensures .0) (k .ensures))
+    (s .pre .0, s .pre .1, noted-all (k .last .0) (areas (a .fixed) (a .marks) (a .log) (a .stored) (a .tables) (a .online) (a .pool)) _ (c .before .before .before .before .before .before .before .before .before .before .load .ensures .0) (k .ensures))
 
 close-requires : tie.Need-close-requires
 close-requires c κs =
@@ -31,7 +31,7 @@ close-requires c κs =
     (e .shaped, e .logged)
 
 same-length : tie.Need-same-length
-same-length c = search needs
+same-length c = omega arith
 
 same-length-2 : tie.Need-same-length-2
 same-length-2 c = search needs

@@ -6,14 +6,14 @@ use borrow.Author.Needs.{needs}
 use Rattle.word.specs.Word.{num}
 use Rattle.rules.specs.Lent.{lentOf}
 use Rattle.checkpoint.specs.Noted.{Noted}
-use Rattle.checkpoint.specs.After.{After}
+use Rattle.checkpoint.specs.Halfway.{Halfway}
 use Rattle.checkpoint.proofs.Laws.{after-none, next-there, reads-fit, writes-fit, after-more, noted-more, after-last, same-lengths}
 use Rattle.checkpoint.proofs.compact_all.Statement.{statement}
 use Rattle.checkpoint.proofs.compact_all.Tie as tie
 
 abbrev Inv-loop : tie.InvT-loop
 Inv-loop fixed marks₀ log stored₀ tables₀ online₀ pool min-del max-age seen pages reads₀ writes₀ j₀ marks stored tables online reads writes j =
-    (pages ≡ num 4 fixed 4) × After min-del max-age (lentOf fixed marks₀ log stored₀ tables₀ online₀ pool) (lentOf fixed marks log stored tables online pool) reads writes j × Noted seen (lentOf fixed marks log stored tables online pool)
+    (pages ≡ num 4 fixed 4) × Halfway min-del max-age (lentOf fixed marks₀ log stored₀ tables₀ online₀ pool) (lentOf fixed marks log stored tables online pool) reads writes j × Noted seen (lentOf fixed marks log stored tables online pool)
 
 abbrev μ-loop : tie.MeasureT-loop
 μ-loop fixed marks₀ log stored₀ tables₀ online₀ pool min-del max-age seen pages reads₀ writes₀ j₀ marks stored tables online reads writes j = pages - j

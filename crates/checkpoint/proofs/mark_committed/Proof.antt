@@ -5,8 +5,8 @@ use lib.ListN.{length}
 use denote.Ref.{now}
 use Rattle.record.specs.Rows.{rows, keep}
 use Rattle.record.specs.Record.{committed}
-use Rattle.onlinecheck.specs.Marks.{markPages}
-use Rattle.checkpoint.proofs.Laws.{mark-start, mark-turn, mark-end}
+use Rattle.table.specs.Marks.{markPages}
+use Rattle.table.proofs.Marks.{marked-start, marked-turn, marked-end}
 use borrow.Author.Needs.{needs}
 use Rattle.checkpoint.proofs.mark_committed.Statement.{statement}
 use Rattle.checkpoint.proofs.mark_committed.Tie as tie
@@ -20,7 +20,7 @@ abbrev μ-loop : tie.MeasureT-loop
 loop-holds : tie.Need-loop-holds Inv-loop μ-loop
 loop-holds c =
     let a = c .before .before .args in
-    (search needs, search needs, mark-start (a .m) (now (a .online)) (now (a .seen)))
+    (search needs, search needs, marked-start committed (a .m) (now (a .online)) (now (a .seen)))
 
 mark-row-requires : tie.Need-mark-row-requires Inv-loop μ-loop
 mark-row-requires c κs = search needs
@@ -36,7 +36,7 @@ loop-again c =
     let a = c .before .before .before .before .before .before .before .before .args in
     let o = c .before .before .before .before .before .loop in
     let j = c .before .before .mark-row in
-    (search needs, search needs, mark-turn (a .m) (now (a .online)) (o .i) (o .seen) (j .last .0) _ (c .before .before .before .before .loop-test .taken) (j .ensures) (o .inv .2))
+    (search needs, search needs, marked-turn committed (a .m) (now (a .online)) (o .i) (o .seen) (j .last .0) _ (c .before .before .before .before .loop-test .taken) (j .ensures) (o .inv .2))
 
 same-length : tie.Need-same-length Inv-loop μ-loop
 same-length c = search needs
@@ -45,7 +45,7 @@ returns : tie.Need-returns Inv-loop μ-loop
 returns c =
     let a = c .before .before .before .before .args in
     let o = c .before .loop in
-    mark-end (a .m) (now (a .online)) (o .i) (o .seen) _ (c .loop-test .left) (o .inv .2)
+    marked-end committed (a .m) (now (a .online)) (o .i) (o .seen) _ (c .loop-test .left) (o .inv .2)
 
 pub mark-committed-spec : {M : Type 1} → statement M
 mark-committed-spec =

@@ -1,6 +1,6 @@
 -- `checkpoint::marked_step` meets its contract: a page without a mark has no committed row, so the step does nothing.
 use denote.Ref.{now}
-use Rattle.rules.specs.Lent.{lentOf}
+use Rattle.rules.specs.Areas.{areas}
 use Rattle.checkpoint.proofs.Laws.{step-unmarked}
 use borrow.Author.Needs.{needs}
 use Rattle.checkpoint.proofs.marked_step.Statement.{statement}
@@ -13,7 +13,7 @@ returns : tie.Need-returns
 returns c =
     let s = c .before .before .before .before .before .before .before .before .before .before in
     let a = s .args in
-    step-unmarked (a .min-del) (a .max-age) (now (a .seen)) (lentOf (now (a .fixed)) (now (a .marks)) (now (a .log)) (now (a .stored)) (now (a .tables)) (now (a .online)) (now (a .pool))) (a .p .0) (s .pre .0) (s .pre .1) (s .pre .2) (c .if1 .taken)
+    step-unmarked (a .min-del) (a .max-age) (now (a .seen)) (areas (a .fixed) (a .marks) (a .log) (a .stored) (a .tables) (a .online) (a .pool)) (a .p .0) (s .pre .0) (s .pre .1) (s .pre .2) (c .if1 .taken)
 
 compact-step-requires : tie.Need-compact-step-requires
 compact-step-requires c κs = search needs

@@ -2,7 +2,7 @@
 use native.Mathlib.Omega.{arith}
 use denote.Ref.{now}
 use borrow.Author.Needs.{needs}
-use Rattle.rules.specs.Lent.{lentOf}
+use Rattle.rules.specs.Areas.{areas}
 use Rattle.compact.proofs.Laws.{planned-seen, page-there, tables-there, reads-done, writes-done, lent-done}
 use Rattle.compact.proofs.compact_by.Statement.{statement}
 use Rattle.compact.proofs.compact_by.Tie as tie
@@ -61,7 +61,7 @@ returns c =
     let q = planned-seen (now (a .fixed)) (now (a .tables)) (now (a .online)) (a .p .0) _ (m .result) (a .s) (k .result) (m .ensures) (s .pre .2) (k .ensures) in (
       reads-done (now (a .fixed)) (now (a .marks)) (now (a .log)) (now (a .stored)) (now (a .tables)) (now (a .online)) (now (a .pool)) (a .p .0) (m .result) (k .result) (m .ensures) q,
       (
-        writes-done (lentOf (now (a .fixed)) (now (a .marks)) (now (a .log)) (now (a .stored)) (now (a .tables)) (now (a .online)) (now (a .pool))) (a .p .0),
+        writes-done (areas (a .fixed) (a .marks) (a .log) (a .stored) (a .tables) (a .online) (a .pool)) (a .p .0),
         lent-done (now (a .fixed)) (now (a .marks)) (now (a .log)) (now (a .stored)) (now (a .tables)) (now (a .online)) (now (a .pool)) (a .p .0) (m .result) (k .result) (m .ensures) q (a .s) (s .pre .2) _ _ _ _
             (c .before .before .before .before .before .before .before .before .before .before .before .before .before .before .write-page .ensures) (c .before .before .before .before .before .before .before .before .before .compact-lost .ensures .0) (c .before .before .before .before .before .before .before .before .before .compact-lost .ensures .1) (c .before .before .store .ensures),
       ),

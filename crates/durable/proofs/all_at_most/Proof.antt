@@ -6,7 +6,8 @@ use mathlib.Core.Bool.{_&&_}
 use denote.Ref.{now}
 use Rattle.rules.specs.Sound.{upTo}
 use Rattle.durable.specs.Marks.{numberWithin}
-use Rattle.durable.proofs.Laws.{upTo-none, upTo-turn, upTo-done, number-read}
+use Rattle.rules.proofs.Walks.{upTo-none, upTo-joins, upTo-joined}
+use Rattle.durable.proofs.Laws.{number-read}
 use Rattle.durable.proofs.all_at_most.Statement.{statement}
 use Rattle.durable.proofs.all_at_most.Tie as tie
 
@@ -46,12 +47,12 @@ loop-again : tie.Need-loop-again Inv-loop μ-loop
 loop-again c =
     let a = c .before .before .before .before .before .args in
     let l = c .before .before .loop in
-    (search needs, upTo-turn (numberWithin (now (a .marks)) (a .at) (a .most .0)) (a .pages) (l .p) (l .ok) _ _ (c .before .loop-test .taken) (number-read (now (a .marks)) (a .at) (a .most .0) (l .p) _ (c .load .ensures .0)) (l .inv .1))
+    (search needs, upTo-joins (numberWithin (now (a .marks)) (a .at) (a .most .0)) (a .pages) (l .p) (l .ok) _ _ (c .before .loop-test .taken) (number-read (now (a .marks)) (a .at) (a .most .0) (l .p) _ (c .load .ensures .0)) (l .inv .1))
 
 returns : tie.Need-returns Inv-loop μ-loop
 returns c =
     let a = c .before .before .before .before .args in
-    upTo-done (numberWithin (now (a .marks)) (a .at) (a .most .0)) (a .pages) (c .before .loop .p) _ _ (c .loop-test .left) (c .before .loop .inv .1)
+    upTo-joined (numberWithin (now (a .marks)) (a .at) (a .most .0)) (a .pages) (c .before .loop .p) _ _ (c .loop-test .left) (c .before .loop .inv .1)
 
 pub all-at-most-spec : {M : Type 1} → statement M
 all-at-most-spec =

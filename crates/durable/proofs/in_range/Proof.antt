@@ -9,7 +9,7 @@ is-page-size-requires c κs = search needs
 
 returns : tie.Need-returns
 unfolding inRange
-returns c = rw (c .is-page-size .ensures)
+returns c = rw (c .before .before .before .before .before .before .before .before .is-page-size .ensures)
 
 pub in-range-spec : {M : Type 1} → statement M
 in-range-spec = tie.close (tie.spec is-page-size-requires returns)

@@ -6,7 +6,7 @@ use denote.Ref.{now}
 use Rattle.record.specs.Rows.{rows}
 use Rattle.record.specs.Record.{wellFormed}
 use Rattle.rules.specs.Sound.{every}
-use Rattle.durable.proofs.Laws.{rows-none, rows-turn, rows-stop, rows-done}
+use Rattle.rules.proofs.Walks.{every-none, every-fail, every-turn, every-done}
 use Rattle.durable.proofs.log_records.Statement.{statement}
 use Rattle.durable.proofs.log_records.Tie as tie
 
@@ -25,7 +25,7 @@ most-values-requires c κs = search needs
 loop-holds : tie.Need-loop-holds Inv-loop μ-loop
 loop-holds c =
     let a = c .before .before .before .args in
-    (search needs, rows-none (wellFormed (a .size) (a .pages)) 14 (now (a .log)) (a .n))
+    (search needs, every-none (wellFormed (a .size) (a .pages)) 14 (a .n) (now (a .log)))
 
 well-formed-requires : tie.Need-well-formed-requires Inv-loop μ-loop
 well-formed-requires c κs = (search needs, search needs, c .before .before .before .before .before .places-of .ensures, c .before .before .before .before .most-values .ensures)
@@ -33,7 +33,7 @@ well-formed-requires c κs = (search needs, search needs, c .before .before .bef
 returns : tie.Need-returns Inv-loop μ-loop
 returns c =
     let a = c .before .before .before .before .before .before .before .before .before .args in
-    rows-stop (wellFormed (a .size) (a .pages)) 14 (now (a .log)) (a .n) (c .before .before .before .before .before .loop .i) _ (c .before .before .before .before .loop-test .taken) (c .before .well-formed .ensures) (c .if1 .taken) (c .before .before .before .before .before .loop .inv .1)
+    every-fail (wellFormed (a .size) (a .pages)) 14 (a .n) (now (a .log)) (c .before .before .before .before .before .loop .i) _ _ (c .before .before .before .before .loop-test .taken) (c .if1 .taken) (c .before .well-formed .ensures) (c .before .before .before .before .before .loop .inv .1)
 
 add-i : tie.Need-add-i Inv-loop μ-loop
 add-i c = search needs
@@ -44,12 +44,12 @@ loop-less c = search needs
 loop-again : tie.Need-loop-again Inv-loop μ-loop
 loop-again c =
     let a = c .before .before .before .before .before .before .before .before .before .args in
-    (search needs, rows-turn (wellFormed (a .size) (a .pages)) 14 (now (a .log)) (a .n) (c .before .before .before .before .before .loop .i) _ (c .before .before .before .before .loop-test .taken) (c .before .well-formed .ensures) (c .if1 .left) (c .before .before .before .before .before .loop .inv .1))
+    (search needs, every-turn (wellFormed (a .size) (a .pages)) 14 (a .n) (now (a .log)) (c .before .before .before .before .before .loop .i) _ _ (c .before .before .before .before .loop-test .taken) (c .if1 .left) (c .before .well-formed .ensures) (c .before .before .before .before .before .loop .inv .1))
 
 returns-2 : tie.Need-returns-2 Inv-loop μ-loop
 returns-2 c =
     let a = c .before .before .before .before .before .args in
-    rows-done (wellFormed (a .size) (a .pages)) 14 (now (a .log)) (a .n) (c .before .loop .i) _ (c .loop-test .left) (c .before .loop .inv .1)
+    every-done (wellFormed (a .size) (a .pages)) 14 (a .n) (now (a .log)) (c .before .loop .i) _ (c .loop-test .left) (c .before .loop .inv .1)
 
 pub log-records-spec : {M : Type 1} → statement M
 log-records-spec =

@@ -7,7 +7,8 @@ use mathlib.Core.Bool.{_&&_}
 use denote.Ref.{now}
 use Rattle.rules.specs.Sound.{upTo}
 use Rattle.durable.specs.Marks.{dirtyFrom}
-use Rattle.durable.proofs.Laws.{upTo-none, upTo-turn, upTo-done, dirty-read}
+use Rattle.rules.proofs.Walks.{upTo-none, upTo-joins, upTo-joined}
+use Rattle.durable.proofs.Laws.{dirty-read}
 use Rattle.durable.proofs.none_before.Statement.{statement}
 use Rattle.durable.proofs.none_before.Tie as tie
 
@@ -57,14 +58,14 @@ loop-again c =
     let a = c .before .before .before .before .before .before .args in
     let l = c .before .before .before .loop in (
       search needs,
-      upTo-turn (dirtyFrom (now (a .marks)) (a .pages) (a .below .0 + 1)) (a .pages) (l .p) (l .ok) _ _ (c .before .before .loop-test .taken)
+      upTo-joins (dirtyFrom (now (a .marks)) (a .pages) (a .below .0 + 1)) (a .pages) (l .p) (l .ok) _ _ (c .before .before .loop-test .taken)
           (dirty-read (now (a .marks)) (a .pages) (a .below .0) (l .p) _ (c .wrapping-sub-u32 .result) (omega arith) (omega arith) (c .before .load .ensures .0) (c .wrapping-sub-u32 .ensures)) (l .inv .1),
     )
 
 returns : tie.Need-returns Inv-loop μ-loop
 returns c =
     let a = c .before .before .before .before .args in
-    upTo-done (dirtyFrom (now (a .marks)) (a .pages) (a .below .0 + 1)) (a .pages) (c .before .loop .p) _ _ (c .loop-test .left) (c .before .loop .inv .1)
+    upTo-joined (dirtyFrom (now (a .marks)) (a .pages) (a .below .0 + 1)) (a .pages) (c .before .loop .p) _ _ (c .loop-test .left) (c .before .loop .inv .1)
 
 pub none-before-spec : {M : Type 1} → statement M
 none-before-spec =

@@ -21,7 +21,7 @@ counts-requires c κs = search needs
 returns : tie.Need-returns
 returns c =
     let a = c .before .before .before .before .before .before .before .args in
-    marks-counts (now (a .marks)) (now (a .log)) (a .size) (a .pages) (a .span) _ _ _
+    marks-counts (now (a .marks)) (now (a .log)) (a .size) (a .pages) (a .log-size) _ _ _
     (c .before .before .before .before .load .ensures .0) (c .before .before .before .load2 .ensures .0) (c .before .before .load3 .ensures .0)
     (c .before .counts .ensures) (c .if1 .taken)
 
@@ -31,13 +31,13 @@ stamps-requires c κs = search needs
 returns-2 : tie.Need-returns-2
 returns-2 c =
     let a = c .before .before .before .before .before .before .before .before .before .args in
-    marks-stamps (now (a .marks)) (now (a .log)) (a .size) (a .pages) (a .span) _ _ _
+    marks-stamps (now (a .marks)) (now (a .log)) (a .size) (a .pages) (a .log-size) _ _ _
     (c .before .before .before .before .before .before .load .ensures .0) (c .before .before .before .before .before .load2 .ensures .0) (c .before .before .before .before .load3 .ensures .0)
     (c .before .before .before .counts .ensures) (c .before .before .if1 .left)
     (c .before .stamps .ensures) (c .if2 .taken)
 
 sub-t10 : tie.Need-sub-t10
-sub-t10 c = counts-hold _ _ _ (c .before .before .before .before .before .before .before .before .before .before .args .span) (c .before .before .before .before .counts .ensures) (c .before .before .before .if1 .left) .1
+sub-t10 c = counts-hold _ _ _ (c .before .before .before .before .before .before .before .before .before .before .args .log-size) (c .before .before .before .before .counts .ensures) (c .before .before .before .if1 .left) .1
 
 dirty-numbers-requires : tie.Need-dirty-numbers-requires
 dirty-numbers-requires c κs = search needs
@@ -45,19 +45,19 @@ dirty-numbers-requires c κs = search needs
 returns-3 : tie.Need-returns-3
 returns-3 c =
     let a = c .before .before .before .before .before .before .before .before .before .before .before .before .args in
-    marks-dirty (now (a .marks)) (now (a .log)) (a .size) (a .pages) (a .span) _ _ _
+    marks-dirty (now (a .marks)) (now (a .log)) (a .size) (a .pages) (a .log-size) _ _ _
     (c .before .before .before .before .before .before .before .before .before .load .ensures .0) (c .before .before .before .before .before .before .before .before .load2 .ensures .0) (c .before .before .before .before .before .before .before .load3 .ensures .0)
     (c .before .before .before .before .before .before .counts .ensures) (c .before .before .before .before .before .if1 .left)
     (c .before .before .before .before .stamps .ensures) (c .before .before .before .if2 .left)
     (c .before .dirty-numbers .ensures) (c .if3 .taken)
 
 sound-log-requires : tie.Need-sound-log-requires
-sound-log-requires c κs = omega (arith, counts-hold _ _ _ (c .before .before .before .before .before .before .before .before .before .before .before .before .args .span) (c .before .before .before .before .before .before .counts .ensures) (c .before .before .before .before .before .if1 .left))
+sound-log-requires c κs = omega (arith, counts-hold _ _ _ (c .before .before .before .before .before .before .before .before .before .before .before .before .args .log-size) (c .before .before .before .before .before .before .counts .ensures) (c .before .before .before .before .before .if1 .left))
 
 returns-4 : tie.Need-returns-4
 returns-4 c =
     let a = c .before .before .before .before .before .before .before .before .before .before .before .before .before .args in
-    marks-log (now (a .marks)) (now (a .log)) (a .size) (a .pages) (a .span) _ _ _
+    marks-log (now (a .marks)) (now (a .log)) (a .size) (a .pages) (a .log-size) _ _ _
     (c .before .before .before .before .before .before .before .before .before .before .load .ensures .0) (c .before .before .before .before .before .before .before .before .before .load2 .ensures .0) (c .before .before .before .before .before .before .before .before .load3 .ensures .0)
     (c .before .before .before .before .before .before .before .counts .ensures) (c .before .before .before .before .before .before .if1 .left)
     (c .before .before .before .before .before .stamps .ensures) (c .before .before .before .before .if2 .left)

@@ -1,7 +1,6 @@
 -- `fetch::bring_in` meets its contract: the page is rebuilt in the frame, then the entries name it.
-use denote.Ref.{now}
 use borrow.Author.Needs.{needs}
-use Rattle.rules.specs.Lent.{lentOf}
+use Rattle.rules.specs.Areas.{areas}
 use Rattle.fetch.proofs.Laws.{fill-fits, brought}
 use Rattle.fetch.proofs.bring_in.Statement.{statement}
 use Rattle.fetch.proofs.bring_in.Tie as tie
@@ -19,7 +18,7 @@ fill-frame-requires : tie.Need-fill-frame-requires
 fill-frame-requires c κs =
     let a = c .before .before .before .before .before .before .before .before .before .before .before .before .before .args in
     let h = c .before .before .before .before .before .before .before .before .before .before .before .before .before .pre in
-    fill-fits (lentOf (now (a .fixed)) (now (a .marks)) (now (a .log)) (now (a .stored)) (now (a .tables)) (now (a .online)) (now (a .pool))) (a .p .0) (a .f .0) _ _ (h .0) (h .1) (h .2) (c .before .before .before .before .before .load-sizes .ensures .size) (c .before .before .before .count-of .ensures .0)
+    fill-fits (areas (a .fixed) (a .marks) (a .log) (a .stored) (a .tables) (a .online) (a .pool)) (a .p .0) (a .f .0) _ _ (h .0) (h .1) (h .2) (c .before .before .before .before .before .load-sizes .ensures .size) (c .before .before .before .count-of .ensures .0)
 
 take-frame-requires : tie.Need-take-frame-requires
 take-frame-requires c κs = search needs
@@ -33,7 +32,7 @@ same-length-2 c = search needs
 returns : tie.Need-returns
 returns c =
     let a = c .before .before .before .before .before .before .before .before .before .before .before .before .before .before .before .before .before .before .before .before .args in
-    brought (lentOf (now (a .fixed)) (now (a .marks)) (now (a .log)) (now (a .stored)) (now (a .tables)) (now (a .online)) (now (a .pool))) (a .p .0) (a .f .0) _ _ _ _ _ _ _ (c .before .before .before .before .before .before .before .before .before .before .before .before .load-sizes .ensures) (c .before .before .before .before .before .before .before .before .before .before .count-of .ensures .0) (c .before .before .before .before .before .before .before .before .entry-of .ensures .0) (c .before .before .take-frame .ensures) (c .before .before .before .before .before .before .fill-frame .ensures)
+    brought (areas (a .fixed) (a .marks) (a .log) (a .stored) (a .tables) (a .online) (a .pool)) (a .p .0) (a .f .0) _ _ _ _ _ _ _ (c .before .before .before .before .before .before .before .before .before .before .before .before .load-sizes .ensures) (c .before .before .before .before .before .before .before .before .before .before .count-of .ensures .0) (c .before .before .before .before .before .before .before .before .entry-of .ensures .0) (c .before .before .take-frame .ensures) (c .before .before .before .before .before .before .fill-frame .ensures)
 
 pub bring-in-spec : {M : Type 1} → statement M
 bring-in-spec =

@@ -5,10 +5,11 @@ use lib.ListN.{length}
 use denote.Ref.{now}
 use borrow.Author.Needs.{needs}
 use Rattle.record.specs.Record.{rowOf}
-use Rattle.rules.specs.Lent.{lentOf}
-use Rattle.table.proofs.Laws.{length-rowOf}
+use Rattle.rules.specs.Areas.{areas}
+use Rattle.record.proofs.Rows.{length-rowOf}
 use Rattle.fetch.proofs.Laws.{used-fits}
-use Rattle.fetch.proofs.Rows.{row-page, updated-row}
+use Rattle.record.proofs.Fields.{row-page}
+use Rattle.fetch.proofs.Rows.{updated-row}
 use Rattle.fetch.proofs.update.Statement.{statement}
 use Rattle.fetch.proofs.update.Tie as tie
 
@@ -36,7 +37,7 @@ apply-in-requires c κs =
     let m = c .before .before .before .before .before .before .before .before .before .before .before .before .before .before .before .count-of .ensures .0 in
     let k : length (c .before .before .before .before .before .before .before .before .before .before .before .change-page .last .1 .1 .1 .1 .1 .1 .0) ≡ length (now (a .pool)) = search needs in
     let l : length (c .before .before .before .before .append .last .0) ≡ length (now (a .online)) = search needs in
-    (used-fits (lentOf (now (a .fixed)) (now (a .marks)) (now (a .log)) (now (a .stored)) (now (a .tables)) (now (a .online)) (now (a .pool))) (a .p .0) _ _ _ _ _ _ _ _ (h .0) (c .before .before .before .before .before .before .before .before .before .before .before .before .before .before .before .before .before .load-sizes .ensures) (c .before .before .before .before .before .before .before .before .before .before .before .change-page .ensures) k, omega (arith, h .0 .sized .online, h .4))
+    (used-fits (areas (a .fixed) (a .marks) (a .log) (a .stored) (a .tables) (a .online) (a .pool)) (a .p .0) _ _ _ _ _ _ _ _ (h .0) (c .before .before .before .before .before .before .before .before .before .before .before .before .before .before .before .before .before .load-sizes .ensures) (c .before .before .before .before .before .before .before .before .before .before .before .change-page .ensures) k, omega (arith, h .0 .sized .online, h .4))
 
 same-length : tie.Need-same-length
 same-length c = search needs
@@ -51,7 +52,7 @@ returns : tie.Need-returns
 returns c =
     let a = c .before .before .before .before .before .before .before .before .before .before .before .before .before .before .before .before .before .before .before .before .before .before .before .before .before .before .before .before .args in
     let h = c .before .before .before .before .before .before .before .before .before .before .before .before .before .before .before .before .before .before .before .before .before .before .before .before .before .before .before .before .pre in
-    updated-row (lentOf (now (a .fixed)) (now (a .marks)) (now (a .log)) (now (a .stored)) (now (a .tables)) (now (a .online)) (now (a .pool))) (rowOf (a .p .0) (a .offset) (a .w) (a .kind) (a .v) (a .owner)) (a .p .0) _ _ _ _ _ _ _ _ _ _
+    updated-row (areas (a .fixed) (a .marks) (a .log) (a .stored) (a .tables) (a .online) (a .pool)) (rowOf (a .p .0) (a .offset) (a .w) (a .kind) (a .v) (a .owner)) (a .p .0) _ _ _ _ _ _ _ _ _ _
     (row-page (a .p .0) (a .offset) (a .w) (a .kind) (a .v) (a .owner) (omega (arith, h .1, h .0 .sized .pages)))
     (length-rowOf (a .p .0) (a .offset) (a .w) (a .kind) (a .v) (a .owner))
     (h .0) (h .4) (h .5)

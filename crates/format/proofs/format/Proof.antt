@@ -39,7 +39,7 @@ returns : tie.Need-returns
 returns c =
     let a = c .before .before .before .before .before .before .before .before .before .before .before .before .before .before .before .before .before .before .before .before .before .before .before .before .before .before .before .args in
     all-made (now (a .fixed)) (now (a .marks)) (now (a .log)) (now (a .stored)) (now (a .tables)) (now (a .online)) (now (a .pool))
-    _ _ _ _ _ (a .size) (a .pages) (a .frames) (a .room) (a .span) (a .last)
+    _ _ _ _ _ (a .g) (a .last)
     (c .before .before .before .before .before .before .before .before .before .before .before .before .before .before .before .before .before .before .write-fixed .ensures)
     (c .before .before .before .before .before .before .before .before .before .before .before .before .before .before .write-marks .ensures)
     (c .before .before .before .before .before .before .before .before .before .before .clear .ensures)

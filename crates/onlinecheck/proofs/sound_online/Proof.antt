@@ -6,7 +6,7 @@ use Prim.Native.Nat.{_+_, _*_, _-_}
 use lib.ListN.{drop}
 use Rattle.record.specs.Rows.{rows}
 use Rattle.rules.specs.Sound.{every, zeros}
-use Rattle.onlinecheck.specs.Online.{inLog, aboveStamp, onlineTest}
+use Rattle.onlinecheck.specs.Online.{inLog, pastStamp, onlineTest}
 use Rattle.onlinecheck.proofs.Marks.{rows-give}
 use Rattle.onlinecheck.proofs.Bytes.{place-give}
 use Rattle.onlinecheck.proofs.sound_online.Statement.{statement}
@@ -31,7 +31,7 @@ sound-ties-requires c κs =
     let a = s .args in
     let l = rows 19 (a .m) (now (a .online)) 0 in
     let z = zeros (drop (a .m * 19) (now (a .online))) in
-    let y = every (aboveStamp (now (a .marks))) l in
+    let y = every (pastStamp (now (a .marks))) l in
     let g = rows-give (now (a .tables)) (now (a .log)) (a .size) (a .pages) (a .last) (a .n) l _ z y (s .pre .2) (s .pre .10) (c .before .sound-rows .ensures) (c .if1 .left) in
     let f = place-give (now (a .tables)) (a .size) (a .pages) (a .last) l _ z (every (inLog (now (a .log)) (a .last - a .n + 1)) l) y (s .pre .8) (c .before .sound-rows .ensures) (c .if1 .left) in
     (search needs, search needs, search needs, g .0, g .1, s .pre .9, f)

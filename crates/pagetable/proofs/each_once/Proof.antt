@@ -1,18 +1,19 @@
 -- `pagetable::each_once` meets its contract: the frames still to be seen decide as much as all.
 use Prim.Native.Nat.{ℕ, _+_, _-_, _≤_}
-use mathlib.Core.Path.{_≡_}
+use mathlib.Core.Path.{_≡_, refl, ap}
+use mathlib.Core.Bool.{not}
 use lib.ListN.{getD}
 use lib.Dec.{leb}
 use denote.Ref.{now}
 use borrow.Author.Tests.{le-leb, lt-leb}
 use Rattle.rules.specs.Sound.{upTo}
-use Rattle.pagetable.proofs.Loops.{upTo-none, upTo-pass, upTo-fail, upTo-done}
+use Rattle.rules.proofs.Walks.{upTo-none, upTo-fail, upTo-turn, upTo-done}
 use borrow.Author.Needs.{needs}
 use Rattle.pagetable.proofs.each_once.Statement.{statement}
 use Rattle.pagetable.proofs.each_once.Tie as tie
 
 abbrev Inv-loop : tie.InvT-loop
-Inv-loop served frames f₀ f = (f ≤ frames) × (upTo (λ (g : ℕ). leb (getD served (g + 1) 0) 1) frames 0 ≡ upTo (λ (g : ℕ). leb (getD served (g + 1) 0) 1) (frames - f) f)
+Inv-loop served frames f₀ f = (f ≤ frames) × (upTo (λ (g : ℕ). leb (getD served (g + 1) 0) 1) (frames - f) f ≡ upTo (λ (g : ℕ). leb (getD served (g + 1) 0) 1) frames 0)
 
 abbrev μ-loop : tie.MeasureT-loop
 μ-loop served frames f₀ f = frames - f
@@ -32,8 +33,8 @@ element-copy-out-if1 c = search needs
 returns : tie.Need-returns Inv-loop μ-loop
 returns c =
     let a = c .before .before .before .before .args in
-    upTo-fail (λ (g : ℕ). leb (getD (now (a .served)) (g + 1) 0) 1) (a .frames) (c .before .before .before .loop .f)
-    (c .before .before .loop-test .taken) (lt-leb _ _ (c .if1 .taken)) (c .before .before .before .loop .inv .1)
+    upTo-fail (λ (g : ℕ). leb (getD (now (a .served)) (g + 1) 0) 1) (a .frames) (c .before .before .before .loop .f) _ _
+    (c .before .before .loop-test .taken) (ap not (lt-leb _ _ (c .if1 .taken))) refl (c .before .before .before .loop .inv .1)
 
 add-f : tie.Need-add-f Inv-loop μ-loop
 add-f c = search needs
@@ -45,14 +46,14 @@ loop-again : tie.Need-loop-again Inv-loop μ-loop
 loop-again c =
     let a = c .before .before .before .before .args in (
       search needs,
-      upTo-pass (λ (g : ℕ). leb (getD (now (a .served)) (g + 1) 0) 1) (a .frames) (c .before .before .before .loop .f)
-          (c .before .before .loop-test .taken) (le-leb _ _ (c .if1 .left)) (c .before .before .before .loop .inv .1),
+      upTo-turn (λ (g : ℕ). leb (getD (now (a .served)) (g + 1) 0) 1) (a .frames) (c .before .before .before .loop .f) _ _
+          (c .before .before .loop-test .taken) (ap not (le-leb _ _ (c .if1 .left))) refl (c .before .before .before .loop .inv .1),
     )
 
 returns-2 : tie.Need-returns-2 Inv-loop μ-loop
 returns-2 c =
     let a = c .before .before .args in
-    upTo-done (λ (g : ℕ). leb (getD (now (a .served)) (g + 1) 0) 1) (a .frames) (c .before .loop .f) (c .loop-test .left) (c .before .loop .inv .1)
+    upTo-done (λ (g : ℕ). leb (getD (now (a .served)) (g + 1) 0) 1) (a .frames) (c .before .loop .f) _ (c .loop-test .left) (c .before .loop .inv .1)
 
 pub each-once-spec : {M : Type 1} → statement M
 each-once-spec =

@@ -1,7 +1,6 @@
 -- Both tables are cleared, and what enters is entered.
 use borrow.Author.Needs.{needs}
-use denote.Ref.{now}
-use Rattle.rules.specs.Lent.{lentOf}
+use Rattle.rules.specs.Areas.{areas}
 use Rattle.restart.proofs.Turns.{restart-asks, restart-made}
 use Rattle.restart.proofs.restart.Statement.{statement}
 use Rattle.restart.proofs.restart.Tie as tie
@@ -15,7 +14,7 @@ clear-requires-2 c κs = search needs
 enter-all-requires : tie.Need-enter-all-requires
 enter-all-requires c κs =
     let a = c .before .before .before .before .before .before .before .before .before .before .before .before .before .before .before .before .before .args in
-    restart-asks (lentOf (now (a .fixed)) (now (a .marks)) (now (a .log)) (now (a .stored)) (now (a .tables)) (now (a .online)) (now (a .pool))) _ _ (c .before .before .before .before .before .before .before .before .before .before .before .before .before .before .before .before .before .pre)
+    restart-asks (areas (a .fixed) (a .marks) (a .log) (a .stored) (a .tables) (a .online) (a .pool)) _ _ (c .before .before .before .before .before .before .before .before .before .before .before .before .before .before .before .before .before .pre)
     (c .before .before .before .before .before .before .before .before .clear .ensures)
     (c .before .before .before .before .clear2 .ensures)
 
@@ -28,7 +27,7 @@ same-length-2 c = search needs
 returns : tie.Need-returns
 returns c =
     let a = c .before .before .before .before .before .before .before .before .before .before .before .before .before .before .before .before .before .before .before .before .before .before .args in
-    restart-made (lentOf (now (a .fixed)) (now (a .marks)) (now (a .log)) (now (a .stored)) (now (a .tables)) (now (a .online)) (now (a .pool))) _ _ _ _ (c .before .before .before .before .before .before .before .before .before .before .before .before .before .before .before .before .before .before .before .before .before .before .pre)
+    restart-made (areas (a .fixed) (a .marks) (a .log) (a .stored) (a .tables) (a .online) (a .pool)) _ _ _ _ (c .before .before .before .before .before .before .before .before .before .before .before .before .before .before .before .before .before .before .before .before .before .before .pre)
     (c .before .before .before .before .before .before .before .before .before .before .before .before .before .clear .ensures)
     (c .before .before .before .before .before .before .before .before .before .clear2 .ensures)
     (c .before .before .before .before .enter-all .ensures .0)

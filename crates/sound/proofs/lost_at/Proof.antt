@@ -12,7 +12,7 @@ use Rattle.sound.proofs.lost_at.Statement.{statement}
 use Rattle.sound.proofs.lost_at.Tie as tie
 
 -- past the first test the tables are sound
-tables-sound : (k : tie.Else1) → let a = k .before .before .before .before .before .before .args in tablesTest (now (a .tables)) (a .pages) (a .frames) (a .room) ≡ true
+tables-sound : (k : tie.Else1) → let a = k .before .before .before .before .before .before .args in tablesTest (now (a .tables)) (a .g .pages) (a .g .frames) (a .g .online) ≡ true
 tables-sound k = so _ _ (k .before .sound-tables .ensures) (k .if1 .left)
 
 sound-tables-requires : tie.Need-sound-tables-requires
@@ -41,7 +41,7 @@ sound-online-requires c κs =
       c .before .load2 .ensures .0,
       c .load3 .ensures .0,
       c .load3 .ensures .1,
-      count-within (now (a .tables)) (a .pages) (a .frames) (a .room) (tables-sound (c .before .before .before)),
+      count-within (now (a .tables)) (a .g .pages) (a .g .frames) (a .g .online) (tables-sound (c .before .before .before)),
     )
 
 returns-2 : tie.Need-returns-2

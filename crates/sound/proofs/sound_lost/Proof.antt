@@ -1,9 +1,9 @@
 -- `sound::sound_lost` meets its contract: the parameters are those that the durable part was checked with.
 use native.Mathlib.Omega.{arith}
 use mathlib.Core.Path.{_∙_}
-use denote.Ref.{now}
-use Rattle.rules.specs.Lent.{Lent, lentOf}
-use Rattle.durable.proofs.Laws.{durable-sized, durable-logged}
+use Rattle.rules.specs.Lent.{Lent}
+use Rattle.rules.specs.Areas.{areas}
+use Rattle.rules.proofs.Ranges.{durable-sized, durable-logged}
 use Rattle.sound.proofs.Laws.{lost-is}
 use borrow.Author.Needs.{needs}
 use Rattle.sound.proofs.sound_lost.Statement.{statement}
@@ -13,7 +13,7 @@ use Rattle.sound.proofs.sound_lost.Tie as tie
 abbrev lent : tie.Start → Lent
 lent s =
     let a = s .args in
-    lentOf (now (a .fixed)) (now (a .marks)) (now (a .log)) (now (a .stored)) (now (a .tables)) (now (a .online)) (now (a .pool))
+    areas (a .fixed) (a .marks) (a .log) (a .stored) (a .tables) (a .online) (a .pool)
 
 params-of-requires : tie.Need-params-of-requires
 params-of-requires c κs = let s = c .before .before .before .before .before .before .before in durable-sized (lent s) (s .pre) .fixed
@@ -25,7 +25,7 @@ lost-at-requires c κs =
 
 returns : tie.Need-returns
 returns c =
-    (rw (c .before .params-of .ensures .0, c .before .params-of .ensures .1, c .before .params-of .ensures .2, c .before .params-of .ensures .3) at (c .lost-at .ensures))
+    (rw (c .before .params-of .ensures .size, c .before .params-of .ensures .pages, c .before .params-of .ensures .frames, c .before .params-of .ensures .online) at (c .lost-at .ensures))
     ∙ lost-is (lent (c .before .before .before .before .before .before .before .before .before))
 
 pub sound-lost-spec : {M : Type 1} → statement M

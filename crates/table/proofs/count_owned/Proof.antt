@@ -10,7 +10,7 @@ use native.Mathlib.Omega.{arith}
 use denote.Ref.{now}
 use Rattle.record.specs.Rows.{rows, keep}
 use Rattle.record.specs.Record.{ownedBy}
-use Rattle.table.proofs.Laws.{count-start, count-turn, count-end}
+use Rattle.record.proofs.Rows.{count-start, count-turn, count-end}
 use Rattle.table.proofs.count_owned.Statement.{statement}
 use Rattle.table.proofs.count_owned.Tie as tie
 

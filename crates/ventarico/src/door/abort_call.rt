@@ -1,5 +1,5 @@
 // Abort a transaction.
-ghost use Rattle.rules.specs.Lent.{lentOf};
+ghost use Rattle.rules.specs.Areas.{before, after};
 ghost use Rattle.rules.specs.Calls.{abortCall};
 ghost use Rattle.ventarico.specs.Said.{Told};
 ghost use mathlib.Core.Path.{_≡_};
@@ -27,8 +27,8 @@ pub extern "C" fn ventarico_abort(
     pool: &[u8],
     number: u32,
 ) -> Reply
-    ensures { λ r. ⌜ Told (abortCall (lentOf (now (fixed .entry)) (now (marks .entry)) (now (log .entry)) (now (stored .entry)) (now (tables .entry)) (now (online .entry)) (now (pool .entry))) number) r
-        (lentOf (now (fixed .entry)) (now (marks .entry)) (now (log .entry)) (now (stored .entry)) (now (tables .exit)) (now (online .exit)) (now (pool .entry))) ⌝ }
+    ensures { λ r. ⌜ Told (abortCall (before fixed marks log stored tables online pool) number) r
+        (after fixed marks log stored tables online pool) ⌝ }
 {
     let v = verdict::judge_abort(fixed, marks, log, stored, tables, online, pool, number);
     match v {
@@ -46,14 +46,14 @@ fn abort_owner(fixed: &[u8], tables: &mut [u8], online: &mut [u8], owner: u8)
     ensures { λ r. ⌜ (now (tables .exit) ≡ set (withCount (length (keep (stays true owner 0) (rows 19 (num 2 (now (tables .entry)) 0) (now (online .entry)) 0))) (withOrder (num 4 (now (fixed .entry)) 8) (framesFreed (num 4 (now (fixed .entry)) 8) (now (tables .entry)) (keep (ownedBy owner) (rows 19 (num 2 (now (tables .entry)) 0) (now (online .entry)) 0)) (part 35 (getD (now (tables .entry)) 2 0) (now (tables .entry)))) (judgedAnew (num 4 (now (fixed .entry)) 8) (keep (stays true owner 0) (rows 19 (num 2 (now (tables .entry)) 0) (now (online .entry)) 0)) (keep (ownedBy owner) (rows 19 (num 2 (now (tables .entry)) 0) (now (online .entry)) 0)) (now (tables .entry))))) (liveAt owner) 0)
         × (now (online .exit) ≡ table 19 (num 4 (now (fixed .entry)) 12) (keep (stays true owner 0) (rows 19 (num 2 (now (tables .entry)) 0) (now (online .entry)) 0))) ⌝ }
 {
-    let given = durable::params_of(fixed);
+    let given = layout::params_of(fixed);
     let m = word::load(tables, 0, 2) as usize;
     steps::abort::abort(
         tables,
         online,
         given.frames as usize,
         m,
-        given.room as usize,
+        given.online as usize,
         owner,
     );
 }

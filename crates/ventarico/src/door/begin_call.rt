@@ -1,5 +1,5 @@
 // Begin a transaction.
-ghost use Rattle.rules.specs.Lent.{lentOf};
+ghost use Rattle.rules.specs.Areas.{before, after};
 ghost use Rattle.rules.specs.Calls.{beginCall};
 ghost use Rattle.ventarico.specs.Said.{Told};
 use rules::Reply;
@@ -16,8 +16,8 @@ pub extern "C" fn ventarico_begin(
     pool: &[u8],
     number: u32,
 ) -> Reply
-    ensures { λ r. ⌜ Told (beginCall (lentOf (now (fixed .entry)) (now (marks .entry)) (now (log .entry)) (now (stored .entry)) (now (tables .entry)) (now (online .entry)) (now (pool .entry))) number) r
-        (lentOf (now (fixed .entry)) (now (marks .entry)) (now (log .entry)) (now (stored .entry)) (now (tables .exit)) (now (online .entry)) (now (pool .entry))) ⌝ }
+    ensures { λ r. ⌜ Told (beginCall (before fixed marks log stored tables online pool) number) r
+        (after fixed marks log stored tables online pool) ⌝ }
 {
     let v = verdict::judge_begin(fixed, marks, log, stored, tables, online, pool, number);
     match v {

@@ -1,5 +1,5 @@
 // A whole checkpoint: compact for each page, then close.
-ghost use Rattle.rules.specs.Lent.{lentOf};
+ghost use Rattle.rules.specs.Areas.{before, after};
 ghost use Rattle.rules.specs.Calls.{checkpointCall};
 ghost use Rattle.ventarico.specs.Said.{Told};
 use rules::Reply;
@@ -17,8 +17,8 @@ pub extern "C" fn ventarico_checkpoint(
     min_del: u32,
     max_age: u32,
 ) -> Reply
-    ensures { λ r. ⌜ Told (checkpointCall (lentOf (now (fixed .entry)) (now (marks .entry)) (now (log .entry)) (now (stored .entry)) (now (tables .entry)) (now (online .entry)) (now (pool .entry))) «min_del» «max_age») r
-        (lentOf (now (fixed .entry)) (now (marks .exit)) (now (log .exit)) (now (stored .exit)) (now (tables .exit)) (now (online .exit)) (now (pool .entry))) ⌝ }
+    ensures { λ r. ⌜ Told (checkpointCall (before fixed marks log stored tables online pool) «min_del» «max_age») r
+        (after fixed marks log stored tables online pool) ⌝ }
 {
     let v = verdict::judge_checkpoint(
         fixed,

@@ -1,5 +1,5 @@
 // Close a checkpoint.
-ghost use Rattle.rules.specs.Lent.{lentOf};
+ghost use Rattle.rules.specs.Areas.{before, after};
 ghost use Rattle.rules.specs.Calls.{closeCall};
 ghost use Rattle.ventarico.specs.Said.{Told};
 use rules::Reply;
@@ -15,8 +15,8 @@ pub extern "C" fn ventarico_close(
     online: &[u8],
     pool: &[u8],
 ) -> Reply
-    ensures { λ r. ⌜ Told (closeCall (lentOf (now (fixed .entry)) (now (marks .entry)) (now (log .entry)) (now (stored .entry)) (now (tables .entry)) (now (online .entry)) (now (pool .entry)))) r
-        (lentOf (now (fixed .entry)) (now (marks .exit)) (now (log .exit)) (now (stored .entry)) (now (tables .entry)) (now (online .entry)) (now (pool .entry))) ⌝ }
+    ensures { λ r. ⌜ Told (closeCall (before fixed marks log stored tables online pool)) r
+        (after fixed marks log stored tables online pool) ⌝ }
 {
     let v = verdict::judge_close(fixed, marks, log, stored, tables, online, pool);
     match v {

@@ -1,5 +1,5 @@
 // Compact one page.
-ghost use Rattle.rules.specs.Lent.{lentOf};
+ghost use Rattle.rules.specs.Areas.{before, after};
 ghost use Rattle.rules.specs.Calls.{compactCall};
 ghost use Rattle.ventarico.specs.Said.{Told};
 use number::PageNo;
@@ -19,8 +19,8 @@ pub extern "C" fn ventarico_compact(
     min_del: u32,
     max_age: u32,
 ) -> Reply
-    ensures { λ r. ⌜ Told (compactCall (lentOf (now (fixed .entry)) (now (marks .entry)) (now (log .entry)) (now (stored .entry)) (now (tables .entry)) (now (online .entry)) (now (pool .entry))) page «min_del» «max_age») r
-        (lentOf (now (fixed .entry)) (now (marks .exit)) (now (log .entry)) (now (stored .exit)) (now (tables .exit)) (now (online .exit)) (now (pool .entry))) ⌝ }
+    ensures { λ r. ⌜ Told (compactCall (before fixed marks log stored tables online pool) page «min_del» «max_age») r
+        (after fixed marks log stored tables online pool) ⌝ }
 {
     let v = verdict::judge_compact(
         fixed,

@@ -1,5 +1,5 @@
 // Evict a page from its frame.
-ghost use Rattle.rules.specs.Lent.{lentOf};
+ghost use Rattle.rules.specs.Areas.{before, after};
 ghost use Rattle.rules.specs.Calls.{evictCall};
 ghost use Rattle.ventarico.specs.Said.{Told};
 use number::PageNo;
@@ -17,14 +17,14 @@ pub extern "C" fn ventarico_evict(
     pool: &[u8],
     page: u32,
 ) -> Reply
-    ensures { λ r. ⌜ Told (evictCall (lentOf (now (fixed .entry)) (now (marks .entry)) (now (log .entry)) (now (stored .entry)) (now (tables .entry)) (now (online .entry)) (now (pool .entry))) page) r
-        (lentOf (now (fixed .entry)) (now (marks .entry)) (now (log .entry)) (now (stored .entry)) (now (tables .exit)) (now (online .entry)) (now (pool .entry))) ⌝ }
+    ensures { λ r. ⌜ Told (evictCall (before fixed marks log stored tables online pool) page) r
+        (after fixed marks log stored tables online pool) ⌝ }
 {
     let v = verdict::judge_evict(fixed, marks, log, stored, tables, online, pool, page);
     match v {
         Verdict::Refuse(why) => crate::answer::refused(why),
         Verdict::Go => {
-            let given = durable::params_of(fixed);
+            let given = layout::params_of(fixed);
             steps::evict::evict(tables, given.frames as usize, PageNo(page as usize));
             crate::answer::done(0, 0, 0)
         }

@@ -1,7 +1,9 @@
 // Format: a new store over the stored pages as they are.
-ghost use Rattle.rules.specs.Lent.{lentOf};
+ghost use Rattle.rules.specs.Lent.{given};
+ghost use Rattle.rules.specs.Areas.{before, after};
 ghost use Rattle.rules.specs.Calls.{formatCall};
 ghost use Rattle.ventarico.specs.Said.{Told};
+use rules::Params;
 use rules::Reply;
 use rules::Verdict;
 
@@ -14,30 +16,24 @@ pub extern "C" fn ventarico_format(
     tables: &mut [u8],
     online: &mut [u8],
     pool: &[u8],
-    size: u32,
+    page_size: u32,
     pages: u32,
     frames: u32,
-    room: u32,
-    span: u32,
+    online_size: u32,
+    log_size: u32,
     last: u32,
 ) -> Reply
-    ensures { λ r. ⌜ Told (formatCall (lentOf (now (fixed .entry)) (now (marks .entry)) (now (log .entry)) (now (stored .entry)) (now (tables .entry)) (now (online .entry)) (now (pool .entry))) size pages frames room span last) r
-        (lentOf (now (fixed .exit)) (now (marks .exit)) (now (log .exit)) (now (stored .entry)) (now (tables .exit)) (now (online .exit)) (now (pool .entry))) ⌝ }
+    ensures { λ r. ⌜ Told (formatCall (before fixed marks log stored tables online pool) (given «page_size» pages frames «online_size» «log_size») last) r
+        (after fixed marks log stored tables online pool) ⌝ }
 {
-    let v = verdict::judge_format(
-        fixed,
-        marks,
-        log,
-        stored,
-        tables,
-        online,
-        pool,
-        size,
-        pages,
-        frames,
-        room,
-        span,
-    );
+    let g = Params {
+        size: page_size as u64,
+        pages: pages as u64,
+        frames: frames as u64,
+        online: online_size as u64,
+        log: log_size as u64,
+    };
+    let v = verdict::judge_format(fixed, marks, log, stored, tables, online, pool, g, last);
     match v {
         Verdict::Refuse(why) => crate::answer::refused(why),
         Verdict::Go => {
@@ -49,11 +45,7 @@ pub extern "C" fn ventarico_format(
                 tables,
                 online,
                 pool,
-                size as u64,
-                pages as u64,
-                frames as u64,
-                room as u64,
-                span as u64,
+                g,
                 last as u64,
             );
             crate::answer::done(0, 0, 0)

@@ -1,6 +1,6 @@
 // Read bytes of a page.
 ghost use mathlib.Core.Path.{_≡_};
-ghost use Rattle.rules.specs.Lent.{lentOf};
+ghost use Rattle.rules.specs.Areas.{before, after};
 ghost use Rattle.rules.specs.Calls.{readCall};
 ghost use Rattle.ventarico.specs.Said.{Told};
 use number::PageNo;
@@ -22,8 +22,8 @@ pub extern "C" fn ventarico_read(
     offset: u32,
     length: u32,
 ) -> Reply
-    ensures { λ r. ⌜ (Told (readCall (lentOf (now (fixed .entry)) (now (marks .entry)) (now (log .entry)) (now (stored .entry)) (now (tables .entry)) (now (online .entry)) (now (pool .entry))) (now (buffer .entry)) number page offset length) r
-        (lentOf (now (fixed .entry)) (now (marks .entry)) (now (log .entry)) (now (stored .entry)) (now (tables .exit)) (now (online .entry)) (now (pool .exit)))) × (now (buffer .exit) ≡ readCall (lentOf (now (fixed .entry)) (now (marks .entry)) (now (log .entry)) (now (stored .entry)) (now (tables .entry)) (now (online .entry)) (now (pool .entry))) (now (buffer .entry)) number page offset length .buffer) ⌝ }
+    ensures { λ r. ⌜ (Told (readCall (before fixed marks log stored tables online pool) (now (buffer .entry)) number page offset length) r
+        (after fixed marks log stored tables online pool)) × (now (buffer .exit) ≡ readCall (before fixed marks log stored tables online pool) (now (buffer .entry)) number page offset length .buffer) ⌝ }
 {
     let room = buffer.len();
     let v = verdict::judge_read(

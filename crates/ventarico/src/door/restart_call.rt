@@ -1,5 +1,5 @@
 // Restart after a power loss.
-ghost use Rattle.rules.specs.Lent.{lentOf};
+ghost use Rattle.rules.specs.Areas.{before, after};
 ghost use Rattle.rules.specs.Calls.{restartCall};
 ghost use Rattle.ventarico.specs.Said.{Told};
 use rules::Reply;
@@ -15,8 +15,8 @@ pub extern "C" fn ventarico_restart(
     online: &mut [u8],
     pool: &[u8],
 ) -> Reply
-    ensures { λ r. ⌜ Told (restartCall (lentOf (now (fixed .entry)) (now (marks .entry)) (now (log .entry)) (now (stored .entry)) (now (tables .entry)) (now (online .entry)) (now (pool .entry)))) r
-        (lentOf (now (fixed .entry)) (now (marks .entry)) (now (log .entry)) (now (stored .entry)) (now (tables .exit)) (now (online .exit)) (now (pool .entry))) ⌝ }
+    ensures { λ r. ⌜ Told (restartCall (before fixed marks log stored tables online pool)) r
+        (after fixed marks log stored tables online pool) ⌝ }
 {
     let v = verdict::judge_restart(fixed, marks, log, stored, tables, online, pool);
     match v {

@@ -1,5 +1,5 @@
 // Update bytes of a page.
-ghost use Rattle.rules.specs.Lent.{lentOf};
+ghost use Rattle.rules.specs.Areas.{before, after};
 ghost use Rattle.rules.specs.Calls.{updateCall};
 ghost use Rattle.ventarico.specs.Said.{Told};
 use number::PageNo;
@@ -22,8 +22,8 @@ pub extern "C" fn ventarico_update(
     kind: u32,
     value: u64,
 ) -> Reply
-    ensures { λ r. ⌜ Told (updateCall (lentOf (now (fixed .entry)) (now (marks .entry)) (now (log .entry)) (now (stored .entry)) (now (tables .entry)) (now (online .entry)) (now (pool .entry))) number page offset length kind value) r
-        (lentOf (now (fixed .entry)) (now (marks .entry)) (now (log .entry)) (now (stored .entry)) (now (tables .exit)) (now (online .exit)) (now (pool .exit))) ⌝ }
+    ensures { λ r. ⌜ Told (updateCall (before fixed marks log stored tables online pool) number page offset length kind value) r
+        (after fixed marks log stored tables online pool) ⌝ }
 {
     let v = verdict::judge_update(
         fixed,

@@ -1,13 +1,13 @@
--- `verdict::judge_commit` meets its contract: the check first, then the case of `judgeCommit` that the call's own tests pick.
+-- `verdict::judge_commit` meets its contract: the check first, then the call's own refusals.
 use borrow.Author.Tests.{not-false}
 use native.Mathlib.Omega.{arith}
 use mathlib.Core.Path.{_≡_}
 use mathlib.Core.Bool.{false, not}
-use denote.Ref.{now}
-use Rattle.rules.specs.Lent.{Lent, lentOf}
+use Rattle.rules.specs.Lent.{Lent}
+use Rattle.rules.specs.Areas.{areas}
 use Rattle.rules.specs.Sound.{sound}
 use Rattle.rules.specs.Shape.{Shaped}
-use Rattle.rules.specs.Calls.{mayCommit, judgeCommit}
+use Rattle.rules.specs.Calls.{verdictOf, commitRefusals, judgeCommit}
 use Rattle.clerk.proofs.Laws.{too-high}
 use Rattle.rules.proofs.Verdicts.{refused, passed}
 use Rattle.sound.proofs.Laws.{sound-shaped}
@@ -20,7 +20,7 @@ use Rattle.verdict.proofs.judge_commit.Tie as tie
 abbrev lent : tie.Else1 → Lent
 lent k =
     let a = k .before .before .before .before .before .before .before .before .before .args in
-    lentOf (now (a .fixed)) (now (a .marks)) (now (a .log)) (now (a .stored)) (now (a .tables)) (now (a .online)) (now (a .pool))
+    areas (a .fixed) (a .marks) (a .log) (a .stored) (a .tables) (a .online) (a .pool)
 
 -- past the check they are sound, and so have their shape
 past : (k : tie.Else1) → not (sound (lent k)) ≡ false
@@ -33,7 +33,7 @@ is-sound-requires : tie.Need-is-sound-requires
 is-sound-requires c κs = search needs
 
 returns : tie.Need-returns
-unfolding judgeCommit
+unfolding verdictOf judgeCommit
 returns c = refused _ _ _ (turned _ _ _ (c .before .is-sound .ensures) (c .if1 .taken))
 
 params-of-requires : tie.Need-params-of-requires
@@ -49,7 +49,7 @@ load-requires-3 : tie.Need-load-requires-3
 load-requires-3 c κs = omega (arith, shaped (c .before .before .before))
 
 returns-2 : tie.Need-returns-2
-unfolding judgeCommit mayCommit
+unfolding verdictOf judgeCommit commitRefusals
 returns-2 c = passed _ _ _ _ (past (c .before .before .before .before .before)) (refused _ _ _ (too-high _ (c .if2 .taken)))
 
 cast-count-owned : tie.Need-cast-count-owned
@@ -70,11 +70,11 @@ may-commit-requires c κs =
     )
 
 returns-3 : tie.Need-returns-3
-unfolding judgeCommit
+unfolding verdictOf judgeCommit
 returns-3 c =
     passed _ _ _ _ (past (c .before .before .before .before .before .before .before))
     (rw (
-      c .before .before .before .before .before .before .params-of .ensures .4,
+      c .before .before .before .before .before .before .params-of .ensures .log,
       c .before .before .before .before .load2 .ensures .0,
       c .before .before .before .load3 .ensures .0,
       c .before .count-owned .ensures .0,

@@ -1,12 +1,12 @@
--- `verdict::judge_compact` meets its contract: the check first, then the case of `judgeCompact` that the call's own tests pick.
+-- `verdict::judge_compact` meets its contract: the check first, then the call's own refusals.
 use borrow.Author.Tests.{not-false}
 use mathlib.Core.Path.{_≡_}
 use mathlib.Core.Bool.{false, not}
-use denote.Ref.{now}
-use Rattle.rules.specs.Lent.{Lent, lentOf}
+use Rattle.rules.specs.Lent.{Lent}
+use Rattle.rules.specs.Areas.{areas}
 use Rattle.rules.specs.Sound.{sound}
 use Rattle.rules.specs.Shape.{Shaped}
-use Rattle.rules.specs.Calls.{judgeCompact}
+use Rattle.rules.specs.Calls.{verdictOf, judgeCompact}
 use Rattle.rules.proofs.Verdicts.{refused, passed}
 use Rattle.sound.proofs.Laws.{sound-shaped}
 use Rattle.judge.proofs.Laws.{turned}
@@ -18,7 +18,7 @@ use Rattle.verdict.proofs.judge_compact.Tie as tie
 abbrev lent : tie.Else1 → Lent
 lent k =
     let a = k .before .before .before .before .before .before .before .before .before .args in
-    lentOf (now (a .fixed)) (now (a .marks)) (now (a .log)) (now (a .stored)) (now (a .tables)) (now (a .online)) (now (a .pool))
+    areas (a .fixed) (a .marks) (a .log) (a .stored) (a .tables) (a .online) (a .pool)
 
 -- past the check they are sound, and so have their shape
 past : (k : tie.Else1) → not (sound (lent k)) ≡ false
@@ -31,7 +31,7 @@ is-sound-requires : tie.Need-is-sound-requires
 is-sound-requires c κs = search needs
 
 returns : tie.Need-returns
-unfolding judgeCompact
+unfolding verdictOf judgeCompact
 returns c = refused _ _ _ (turned _ _ _ (c .before .is-sound .ensures) (c .if1 .taken))
 
 params-of-requires : tie.Need-params-of-requires
@@ -41,8 +41,8 @@ may-compact-requires : tie.Need-may-compact-requires
 may-compact-requires c κs = search needs
 
 returns-2 : tie.Need-returns-2
-unfolding judgeCompact
-returns-2 c = passed _ _ _ _ (past (c .before .before)) (rw (c .before .params-of .ensures .1) at (c .may-compact .ensures))
+unfolding verdictOf judgeCompact
+returns-2 c = passed _ _ _ _ (past (c .before .before)) (rw (c .before .params-of .ensures .pages) at (c .may-compact .ensures))
 
 pub judge-compact-spec : {M : Type 1} → statement M
 judge-compact-spec =

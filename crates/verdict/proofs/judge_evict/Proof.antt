@@ -1,13 +1,13 @@
--- `verdict::judge_evict` meets its contract: the check first, then the case of `judgeEvict` that the call's own tests pick.
+-- `verdict::judge_evict` meets its contract: the check first, then the call's own refusals.
 use borrow.Author.Tests.{not-false}
 use native.Mathlib.Omega.{arith}
 use mathlib.Core.Path.{_≡_}
 use mathlib.Core.Bool.{false, not}
-use denote.Ref.{now}
-use Rattle.rules.specs.Lent.{Lent, lentOf}
+use Rattle.rules.specs.Lent.{Lent}
+use Rattle.rules.specs.Areas.{areas}
 use Rattle.rules.specs.Sound.{sound}
 use Rattle.rules.specs.Shape.{Shaped}
-use Rattle.rules.specs.Calls.{judgeEvict}
+use Rattle.rules.specs.Calls.{verdictOf, judgeEvict}
 use Rattle.rules.proofs.Verdicts.{refused, passed}
 use Rattle.sound.proofs.Laws.{sound-shaped}
 use Rattle.judge.proofs.Laws.{turned}
@@ -19,7 +19,7 @@ use Rattle.verdict.proofs.judge_evict.Tie as tie
 abbrev lent : tie.Else1 → Lent
 lent k =
     let a = k .before .before .before .before .before .before .before .before .before .args in
-    lentOf (now (a .fixed)) (now (a .marks)) (now (a .log)) (now (a .stored)) (now (a .tables)) (now (a .online)) (now (a .pool))
+    areas (a .fixed) (a .marks) (a .log) (a .stored) (a .tables) (a .online) (a .pool)
 
 -- past the check they are sound, and so have their shape
 past : (k : tie.Else1) → not (sound (lent k)) ≡ false
@@ -32,7 +32,7 @@ is-sound-requires : tie.Need-is-sound-requires
 is-sound-requires c κs = search needs
 
 returns : tie.Need-returns
-unfolding judgeEvict
+unfolding verdictOf judgeEvict
 returns c = refused _ _ _ (turned _ _ _ (c .before .is-sound .ensures) (c .if1 .taken))
 
 params-of-requires : tie.Need-params-of-requires
@@ -45,10 +45,10 @@ may-evict-requires : tie.Need-may-evict-requires
 may-evict-requires c κs = search needs
 
 returns-2 : tie.Need-returns-2
-unfolding judgeEvict
+unfolding verdictOf judgeEvict
 returns-2 c =
     passed _ _ _ _ (past (c .before .before .before))
-    (rw (c .before .before .params-of .ensures .1, c .before .entry-of .ensures, c .before .before .params-of .ensures .2) at (c .may-evict .ensures))
+    (rw (c .before .before .params-of .ensures .pages, c .before .entry-of .ensures, c .before .before .params-of .ensures .frames) at (c .may-evict .ensures))
 
 pub judge-evict-spec : {M : Type 1} → statement M
 judge-evict-spec =

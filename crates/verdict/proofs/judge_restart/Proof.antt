@@ -1,14 +1,14 @@
--- `verdict::judge_restart` meets its contract: the check first, then the case of `judgeRestart` that the call's own tests pick.
+-- `verdict::judge_restart` meets its contract: the check first, then the call's own refusals.
 use Prim.Native.Nat.{ℕ, _<_, _≤_}
 use mathlib.Core.Path.{_≡_, refl, subst₂}
 use mathlib.Core.Bool.{true, false, not}
-use denote.Ref.{now}
 use borrow.Author.Tests.{lt-ltb, le-ltb, not-false}
-use Rattle.rules.specs.Lent.{Lent, lentOf}
+use Rattle.rules.specs.Lent.{Lent}
+use Rattle.rules.specs.Areas.{areas}
 use Rattle.rules.specs.Sound.{soundDurable}
-use Rattle.rules.specs.Calls.{judgeRestart}
+use Rattle.rules.specs.Calls.{verdictOf, judgeRestart}
 use Rattle.rules.proofs.Verdicts.{refused, passed}
-use Rattle.durable.proofs.Laws.{durable-sized, durable-logged, durable-log-records}
+use Rattle.rules.proofs.Ranges.{durable-sized, durable-logged, durable-log-records}
 use Rattle.judge.proofs.Laws.{turned}
 use borrow.Author.Needs.{needs}
 use Rattle.verdict.proofs.judge_restart.Statement.{statement}
@@ -18,7 +18,7 @@ use Rattle.verdict.proofs.judge_restart.Tie as tie
 abbrev lent : tie.Else1 → Lent
 lent k =
     let a = k .before .before .before .before .before .before .before .before .before .args in
-    lentOf (now (a .fixed)) (now (a .marks)) (now (a .log)) (now (a .stored)) (now (a .tables)) (now (a .online)) (now (a .pool))
+    areas (a .fixed) (a .marks) (a .log) (a .stored) (a .tables) (a .online) (a .pool)
 
 -- past the check the durable part is sound
 past : (k : tie.Else1) → not (soundDurable (lent k)) ≡ false
@@ -31,7 +31,7 @@ sound-durable-requires : tie.Need-sound-durable-requires
 sound-durable-requires c κs = search needs
 
 returns : tie.Need-returns
-unfolding judgeRestart
+unfolding verdictOf judgeRestart
 returns c = refused _ _ _ (turned _ _ _ (c .before .sound-durable .ensures) (c .if1 .taken))
 
 params-of-requires : tie.Need-params-of-requires
@@ -44,16 +44,16 @@ count-entering-requires c κs =
     (durable-sized (lent k) (durable k), logged .0, logged .1, durable-log-records (lent k) (durable k))
 
 returns-2 : tie.Need-returns-2
-unfolding judgeRestart
+unfolding verdictOf judgeRestart
 returns-2 c =
     passed _ _ _ _ (past (c .before .before .before))
-    (refused _ _ _ (lt-ltb _ _ (subst₂ (λ (a b : ℕ). a < b) (c .before .before .params-of .ensures .3) (c .before .count-entering .ensures) (c .if2 .taken))))
+    (refused _ _ _ (lt-ltb _ _ (subst₂ (λ (a b : ℕ). a < b) (c .before .before .params-of .ensures .online) (c .before .count-entering .ensures) (c .if2 .taken))))
 
 returns-3 : tie.Need-returns-3
-unfolding judgeRestart
+unfolding verdictOf judgeRestart
 returns-3 c =
     passed _ _ _ _ (past (c .before .before .before))
-    (passed _ _ _ _ (le-ltb _ _ (subst₂ (λ (a b : ℕ). a ≤ b) (c .before .count-entering .ensures) (c .before .before .params-of .ensures .3) (c .if2 .left))) refl)
+    (passed _ _ _ _ (le-ltb _ _ (subst₂ (λ (a b : ℕ). a ≤ b) (c .before .count-entering .ensures) (c .before .before .params-of .ensures .online) (c .if2 .left))) refl)
 
 pub judge-restart-spec : {M : Type 1} → statement M
 judge-restart-spec =

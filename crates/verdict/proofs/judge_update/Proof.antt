@@ -1,13 +1,13 @@
--- `verdict::judge_update` meets its contract: the check first, then the case of `judgeUpdate` that the call's own tests pick.
+-- `verdict::judge_update` meets its contract: the check first, then the call's own refusals.
 use borrow.Author.Tests.{not-false}
 use native.Mathlib.Omega.{arith}
 use mathlib.Core.Path.{_≡_}
 use mathlib.Core.Bool.{false, not}
-use denote.Ref.{now}
-use Rattle.rules.specs.Lent.{Lent, lentOf}
+use Rattle.rules.specs.Lent.{Lent}
+use Rattle.rules.specs.Areas.{areas}
 use Rattle.rules.specs.Sound.{sound}
 use Rattle.rules.specs.Shape.{Shaped}
-use Rattle.rules.specs.Calls.{judgeUpdate}
+use Rattle.rules.specs.Calls.{verdictOf, judgeUpdate}
 use Rattle.rules.proofs.Verdicts.{refused, passed}
 use Rattle.sound.proofs.Laws.{sound-shaped}
 use Rattle.judge.proofs.Laws.{turned}
@@ -19,7 +19,7 @@ use Rattle.verdict.proofs.judge_update.Tie as tie
 abbrev lent : tie.Else1 → Lent
 lent k =
     let a = k .before .before .before .before .before .before .before .before .before .args in
-    lentOf (now (a .fixed)) (now (a .marks)) (now (a .log)) (now (a .stored)) (now (a .tables)) (now (a .online)) (now (a .pool))
+    areas (a .fixed) (a .marks) (a .log) (a .stored) (a .tables) (a .online) (a .pool)
 
 -- past the check they are sound, and so have their shape
 past : (k : tie.Else1) → not (sound (lent k)) ≡ false
@@ -32,7 +32,7 @@ is-sound-requires : tie.Need-is-sound-requires
 is-sound-requires c κs = search needs
 
 returns : tie.Need-returns
-unfolding judgeUpdate
+unfolding verdictOf judgeUpdate
 returns c = refused _ _ _ (turned _ _ _ (c .before .is-sound .ensures) (c .if1 .taken))
 
 params-of-requires : tie.Need-params-of-requires
@@ -41,17 +41,14 @@ params-of-requires c κs = shaped c .sized .fixed
 load-requires : tie.Need-load-requires
 load-requires c κs = omega (arith, shaped (c .before))
 
-sub-may-update : tie.Need-sub-may-update
-sub-may-update c = omega (arith, shaped (c .before .before), c .load .ensures .0, c .before .params-of .ensures)
-
 may-update-requires : tie.Need-may-update-requires
 may-update-requires c κs = omega (arith, shaped (c .before .before), c .load .ensures .0)
 
 returns-2 : tie.Need-returns-2
-unfolding judgeUpdate
+unfolding verdictOf judgeUpdate
 returns-2 c =
     passed _ _ _ _ (past (c .before .before .before))
-    (rw (c .before .before .params-of .ensures .0, c .before .before .params-of .ensures .1, c .before .before .params-of .ensures .3, c .before .load .ensures .0) at (c .may-update .ensures))
+    (rw (c .before .before .params-of .ensures .size, c .before .before .params-of .ensures .pages, c .before .before .params-of .ensures .online, c .before .load .ensures .0) at (c .may-update .ensures))
 
 pub judge-update-spec : {M : Type 1} → statement M
 judge-update-spec =
@@ -61,6 +58,5 @@ judge-update-spec =
     returns
     params-of-requires
     load-requires
-    sub-may-update
     may-update-requires
     returns-2)

@@ -5,7 +5,7 @@ use denote.Ref.{now}
 use lib.ListN.{length}
 use lib.Dec.{eqb}
 use borrow.Author.Tests.{ne-eqb, eq-eqb}
-use Rattle.rules.specs.Lent.{lentOf}
+use Rattle.rules.specs.Areas.{areas}
 use Rattle.rules.specs.Sound.{exactLengths}
 use Rattle.sound.proofs.Laws.{and-kept}
 use borrow.Author.Needs.{needs}
@@ -16,8 +16,7 @@ use Rattle.verdict.proofs.lengths.Tie as tie
 abbrev exact : tie.Start → Bool
 exact s =
     let a = s .args in
-    exactLengths (lentOf (now (a .fixed)) (now (a .marks)) (now (a .log)) (now (a .stored)) (now (a .tables)) (now (a .online)) (now (a .pool)))
-    (a .size) (a .pages) (a .frames) (a .room) (a .span)
+    exactLengths (areas (a .fixed) (a .marks) (a .log) (a .stored) (a .tables) (a .online) (a .pool)) (a .g)
 
 returns : tie.Need-returns
 returns c = sym (ap (λ (b : Bool). b && exact (c .before .before .before .before .before .before .before .before)) (ne-eqb _ _ (c .if1 .taken)))
@@ -29,7 +28,7 @@ returns-2 : tie.Need-returns-2
 returns-2 c =
     and-kept (eqb (length (now (c .before .before .before .before .before .before .before .before .before .args .fixed))) 20) (exact (c .before .before .before .before .before .before .before .before .before)) _
     (eq-eqb _ _ (c .before .if1 .left))
-    (c .exact-lengths .ensures (now (c .before .before .before .before .before .before .before .before .before .args .fixed)))
+    (c .exact-lengths .ensures)
 
 pub lengths-spec : {M : Type 1} → statement M
 lengths-spec = tie.close (tie.spec returns exact-lengths-requires returns-2)

@@ -5,7 +5,7 @@ use native.Mathlib.Omega.{arith}
 use denote.Ref.{now}
 use Rattle.record.specs.Rows.{rowAt, rows, keep}
 use Rattle.record.specs.Record.{pageOf}
-use Rattle.onlinecheck.specs.Bytes.{openOn, placed, freeRows, withRows}
+use Rattle.onlinecheck.specs.Bytes.{openOn, bounded, freeRows, withRows}
 use Rattle.onlinecheck.proofs.Rows.{every-at}
 use Rattle.onlinecheck.proofs.Chains.{Walk, walk-none, walk-fail, walk-turn, walk-done, walk-less}
 use Rattle.onlinecheck.proofs.apart.chain_apart.Statement.{statement}
@@ -32,7 +32,7 @@ loop-holds c =
 take-row-requires : tie.Need-take-row-requires Inv-loop μ-loop
 take-row-requires c κs =
     let s = c .before .before .before .before in
-    (omega arith, omega (arith, s .pre .1, s .pre .2), every-at placed 19 (s .args .m) (now (s .args .t)) (c .before .before .loop .j) (c .before .loop-test .taken) (s .pre .3))
+    (omega arith, omega (arith, s .pre .1, s .pre .2), every-at bounded 19 (s .args .m) (now (s .args .t)) (c .before .before .loop .j) (c .before .loop-test .taken) (s .pre .3))
 
 returns : tie.Need-returns Inv-loop μ-loop
 returns c =

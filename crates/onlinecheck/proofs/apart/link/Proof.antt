@@ -7,7 +7,7 @@ use denote.Ref.{now}
 use borrow.Author.Tests.{ltb-true}
 use Rattle.record.specs.Rows.{rowAt}
 use Rattle.record.specs.Record.{pageOf}
-use Rattle.onlinecheck.specs.Online.{pageBelow}
+use Rattle.rules.specs.Shape.{pageBelow}
 use Rattle.onlinecheck.specs.Bytes.{Linked}
 use Rattle.onlinecheck.proofs.Rows.{every-at}
 use Rattle.onlinecheck.proofs.Chains.{link-turn}

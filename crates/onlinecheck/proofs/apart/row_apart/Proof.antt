@@ -5,7 +5,7 @@ use native.Mathlib.Omega.{arith}
 use denote.Ref.{now}
 use Rattle.record.specs.Rows.{rowAt}
 use Rattle.record.specs.Record.{pageOf}
-use Rattle.onlinecheck.specs.Online.{pageBelow}
+use Rattle.rules.specs.Shape.{pageBelow}
 use Rattle.onlinecheck.proofs.Rows.{every-at}
 use Rattle.onlinecheck.proofs.Bytes.{pass-alone, pass-later, first-chain, pass-first}
 use Rattle.onlinecheck.proofs.apart.row_apart.Statement.{statement}

@@ -7,7 +7,7 @@ use mathlib.Core.Bool.{_&&_}
 use Rattle.record.specs.Part.{part}
 use Rattle.rules.specs.Sound.{upTo}
 use Rattle.onlinecheck.specs.Marks.{entryMarked}
-use Rattle.durable.proofs.Laws.{upTo-none, upTo-turn, upTo-done}
+use Rattle.rules.proofs.Walks.{upTo-none, upTo-joins, upTo-joined}
 use Rattle.onlinecheck.proofs.dirty.all_marked.Statement.{statement}
 use Rattle.onlinecheck.proofs.dirty.all_marked.Tie as tie
 
@@ -35,13 +35,13 @@ loop-again : tie.Need-loop-again Inv-loop μ-loop
 loop-again c =
     let a = c .before .before .before .before .args in
     let h = c .before .before .loop in
-    (search needs, upTo-turn (entryMarked (part (35 + a .frames) (a .pages) (now (a .tables))) (now (a .marks))) (a .pages) (h .p) (h .ok) _ _ (c .before .loop-test .taken) (c .agrees .ensures) (h .inv .1))
+    (search needs, upTo-joins (entryMarked (part (35 + a .frames) (a .pages) (now (a .tables))) (now (a .marks))) (a .pages) (h .p) (h .ok) _ _ (c .before .loop-test .taken) (c .agrees .ensures) (h .inv .1))
 
 returns : tie.Need-returns Inv-loop μ-loop
 returns c =
     let a = c .before .before .before .args in
     let h = c .before .loop in
-    upTo-done (entryMarked (part (35 + a .frames) (a .pages) (now (a .tables))) (now (a .marks))) (a .pages) (h .p) (h .ok) _ (c .loop-test .left) (h .inv .1)
+    upTo-joined (entryMarked (part (35 + a .frames) (a .pages) (now (a .tables))) (now (a .marks))) (a .pages) (h .p) (h .ok) _ (c .loop-test .left) (h .inv .1)
 
 pub all-marked-spec : {M : Type 1} → statement M
 all-marked-spec =

@@ -7,8 +7,8 @@ use native.Mathlib.Omega.{arith}
 use borrow.Author.Tests.{ltb-true}
 use Rattle.record.specs.Rows.{rowAt, rows}
 use Rattle.record.specs.Record.{pageOf}
-use Rattle.onlinecheck.specs.Online.{pageBelow}
-use Rattle.onlinecheck.specs.Marks.{markPages}
+use Rattle.rules.specs.Shape.{pageBelow}
+use Rattle.table.specs.Marks.{markPages}
 use Rattle.onlinecheck.proofs.Rows.{every-at}
 use Rattle.onlinecheck.proofs.Marks.{pages-none, pages-turn, pages-done}
 use Rattle.onlinecheck.proofs.dirty.mark_pages.Statement.{statement}

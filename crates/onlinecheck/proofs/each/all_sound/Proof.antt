@@ -6,7 +6,7 @@ use mathlib.Core.Path.{_≡_}
 use Rattle.record.specs.Rows.{rows}
 use Rattle.rules.specs.Sound.{every}
 use Rattle.onlinecheck.specs.Online.{rowTest}
-use Rattle.onlinecheck.proofs.Rows.{every-none, every-fail, every-turn, every-done}
+use Rattle.rules.proofs.Walks.{every-none, every-fail, every-turn, every-done}
 use Rattle.onlinecheck.proofs.each.all_sound.Statement.{statement}
 use Rattle.onlinecheck.proofs.each.all_sound.Tie as tie
 

@@ -5,7 +5,8 @@ use borrow.Author.Tests.{ltb-true}
 use denote.Ref.{now}
 use Rattle.record.specs.Rows.{rowAt}
 use Rattle.record.specs.Record.{wellFormed}
-use Rattle.onlinecheck.proofs.Laws.{formed-below, owned-number}
+use Rattle.rules.proofs.Clauses.{formed-below}
+use Rattle.onlinecheck.proofs.Laws.{owned-number}
 use Rattle.onlinecheck.proofs.each.is_sound.Statement.{statement}
 use Rattle.onlinecheck.proofs.each.is_sound.Tie as tie
 

@@ -5,7 +5,7 @@ use denote.Ref.{now}
 use mathlib.Core.Path.{_≡_}
 use Rattle.record.specs.Rows.{rows}
 use Rattle.rules.specs.Sound.{pairs, apart}
-use Rattle.onlinecheck.proofs.Rows.{pairs-none, pairs-fail, pairs-turn, pairs-done}
+use Rattle.rules.proofs.Walks.{pairs-none, pairs-fail, pairs-turn, pairs-done}
 use Rattle.onlinecheck.proofs.few.all_apart_few.Statement.{statement}
 use Rattle.onlinecheck.proofs.few.all_apart_few.Tie as tie
 

@@ -5,7 +5,7 @@ use denote.Ref.{now}
 use mathlib.Core.Path.{_≡_, refl}
 use Rattle.record.specs.Rows.{rowAt, rows}
 use Rattle.rules.specs.Sound.{every, apart}
-use Rattle.onlinecheck.proofs.Rows.{every-fail, every-turn, every-done}
+use Rattle.rules.proofs.Walks.{every-fail, every-turn, every-done}
 use Rattle.onlinecheck.proofs.Laws.{apart-all}
 use Rattle.onlinecheck.proofs.few.apart_after.Statement.{statement}
 use Rattle.onlinecheck.proofs.few.apart_after.Tie as tie

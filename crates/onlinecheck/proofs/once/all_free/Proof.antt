@@ -4,14 +4,14 @@ use Prim.Native.Nat.{_-_, _≤_}
 use denote.Ref.{now}
 use mathlib.Core.Path.{_≡_}
 use Rattle.record.specs.Rows.{rows}
-use Rattle.onlinecheck.specs.Marks.{slotted, allFree}
+use Rattle.onlinecheck.specs.Marks.{slotted, allUnmarked}
 use Rattle.onlinecheck.proofs.Rows.{every-at}
 use Rattle.onlinecheck.proofs.Marks.{free-none, free-fail, free-turn, free-done}
 use Rattle.onlinecheck.proofs.once.all_free.Statement.{statement}
 use Rattle.onlinecheck.proofs.once.all_free.Tie as tie
 
 abbrev Inv-loop : tie.InvT-loop
-Inv-loop t m first marks₀ i₀ marks i = (i ≤ m) × (allFree first (rows 19 (m - i) t i) marks ≡ allFree first (rows 19 m t 0) marks₀)
+Inv-loop t m first marks₀ i₀ marks i = (i ≤ m) × (allUnmarked first (rows 19 (m - i) t i) marks ≡ allUnmarked first (rows 19 m t 0) marks₀)
 
 abbrev μ-loop : tie.MeasureT-loop
 μ-loop t m first marks₀ i₀ marks i = m - i

@@ -6,8 +6,8 @@ use lib.ListN.{length}
 use denote.Ref.{now}
 use Rattle.record.specs.Rows.{rows, keep}
 use Rattle.table.specs.Stays.{stays}
-use Rattle.onlinecheck.specs.Marks.{markPages}
-use Rattle.steps.proofs.Laws.{marked-start, marked-turn, marked-end}
+use Rattle.table.specs.Marks.{markPages}
+use Rattle.table.proofs.Marks.{marked-start, marked-turn, marked-end}
 use borrow.Author.Needs.{needs}
 use Rattle.steps.proofs.abort.mark_stays.Statement.{statement}
 use Rattle.steps.proofs.abort.mark_stays.Tie as tie
@@ -21,7 +21,7 @@ abbrev μ-loop : tie.MeasureT-loop
 loop-holds : tie.Need-loop-holds Inv-loop μ-loop
 loop-holds c =
     let a = c .before .before .args in
-    (search needs, search needs, marked-start (a .owner) (a .m) (now (a .online)) (now (a .marks)))
+    (search needs, search needs, marked-start (stays true (a .owner) 0) (a .m) (now (a .online)) (now (a .marks)))
 
 mark-row-requires : tie.Need-mark-row-requires Inv-loop μ-loop
 mark-row-requires c κs = search needs
@@ -37,7 +37,7 @@ loop-again c =
     let a = c .before .before .before .before .before .before .before .before .args in
     let o = c .before .before .before .before .before .loop in
     let j = c .before .before .mark-row in
-    (search needs, search needs, marked-turn (a .owner) (a .m) (now (a .online)) (o .i) (o .marks) (j .last .0) _ (c .before .before .before .before .loop-test .taken) (j .ensures) (o .inv .2))
+    (search needs, search needs, marked-turn (stays true (a .owner) 0) (a .m) (now (a .online)) (o .i) (o .marks) (j .last .0) _ (c .before .before .before .before .loop-test .taken) (j .ensures) (o .inv .2))
 
 same-length : tie.Need-same-length Inv-loop μ-loop
 same-length c = search needs
@@ -46,7 +46,7 @@ returns : tie.Need-returns Inv-loop μ-loop
 returns c =
     let a = c .before .before .before .before .args in
     let o = c .before .loop in
-    marked-end (a .owner) (a .m) (now (a .online)) (o .i) (o .marks) _ (c .loop-test .left) (o .inv .2)
+    marked-end (stays true (a .owner) 0) (a .m) (now (a .online)) (o .i) (o .marks) _ (c .loop-test .left) (o .inv .2)
 
 pub mark-stays-spec : {M : Type 1} → statement M
 mark-stays-spec =

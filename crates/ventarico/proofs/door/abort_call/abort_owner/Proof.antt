@@ -23,7 +23,7 @@ returns c =
     let given = c .before .before .before .before .before .before .before .before .before .params-of .ensures in
     let count = c .before .before .before .before .before .before .before .load .ensures .0 in
     let did = c .before .before .before .before .abort .ensures in
-    (rw (given .2, count) at (did .0), rw (given .3, count) at (did .1))
+    (rw (given .frames, count) at (did .0), rw (given .online, count) at (did .1))
 
 pub abort-owner-spec : {M : Type 1} → statement M
 abort-owner-spec =

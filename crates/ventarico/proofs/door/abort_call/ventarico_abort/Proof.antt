@@ -1,6 +1,6 @@
 -- `ventarico_abort` keeps its promise: refused as `judgeAbort` says, else done as `aborted` says.
-use Rattle.rules.specs.Lent.{Lent, lentOf}
-use denote.Ref.{now}
+use Rattle.rules.specs.Lent.{Lent}
+use Rattle.rules.specs.Areas.{areas}
 use Rattle.rules.specs.declared.Verdict.{Verdict}
 use Rattle.rules.specs.declared.Verdict.the-variants.{Go, Refuse}
 use mathlib.Core.Path.{_≡_, refl, sym, _∙_}
@@ -9,7 +9,7 @@ use Rattle.rules.specs.Calls.{judgeAbort, abortCall}
 use Rattle.rules.specs.Steps.{lostNow, aborted}
 use Rattle.sound.proofs.Laws.{sound-shaped}
 use Rattle.rules.proofs.Verdicts.{number-most}
-use Rattle.ventarico.proofs.Went.{abort-went}
+use Rattle.rules.proofs.Went.{abort-went}
 use borrow.Author.Needs.{needs}
 use Rattle.ventarico.proofs.door.abort_call.ventarico_abort.Statement.{statement}
 use Rattle.ventarico.proofs.door.abort_call.ventarico_abort.Tie as tie
@@ -22,7 +22,7 @@ start j = j .before .before .before .before .before .before .before .before .bef
 abbrev lent : tie.After-judge-abort → Lent
 lent j =
     let a = start j .args in
-    lentOf (now (a .fixed)) (now (a .marks)) (now (a .log)) (now (a .stored)) (now (a .tables)) (now (a .online)) (now (a .pool))
+    areas (a .fixed) (a .marks) (a .log) (a .stored) (a .tables) (a .online) (a .pool)
 
 -- what the rules say there, and so the judge: a refusal, or go
 abbrev word : tie.After-judge-abort → Verdict

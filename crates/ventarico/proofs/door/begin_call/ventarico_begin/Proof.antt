@@ -1,6 +1,6 @@
 -- `ventarico_begin` keeps its promise: refused as `judgeBegin` says, else done as `begun` says.
-use Rattle.rules.specs.Lent.{Lent, lentOf}
-use denote.Ref.{now}
+use Rattle.rules.specs.Lent.{Lent}
+use Rattle.rules.specs.Areas.{areas}
 use Rattle.rules.specs.declared.Verdict.{Verdict}
 use Rattle.rules.specs.declared.Verdict.the-variants.{Go, Refuse}
 use mathlib.Core.Path.{_≡_, refl, sym, _∙_}
@@ -8,7 +8,7 @@ use native.Mathlib.Omega.{arith}
 use Rattle.rules.specs.Calls.{judgeBegin, beginCall}
 use Rattle.rules.specs.Steps.{lostNow, begun}
 use Rattle.sound.proofs.Laws.{sound-shaped}
-use Rattle.ventarico.proofs.Went.{begin-went}
+use Rattle.rules.proofs.Went.{begin-went}
 use borrow.Author.Needs.{needs}
 use Rattle.ventarico.proofs.door.begin_call.ventarico_begin.Statement.{statement}
 use Rattle.ventarico.proofs.door.begin_call.ventarico_begin.Tie as tie
@@ -21,7 +21,7 @@ start j = j .before .before .before .before .before .before .before .before .bef
 abbrev lent : tie.After-judge-begin → Lent
 lent j =
     let a = start j .args in
-    lentOf (now (a .fixed)) (now (a .marks)) (now (a .log)) (now (a .stored)) (now (a .tables)) (now (a .online)) (now (a .pool))
+    areas (a .fixed) (a .marks) (a .log) (a .stored) (a .tables) (a .online) (a .pool)
 
 -- what the rules say there, and so the judge: a refusal, or go
 abbrev word : tie.After-judge-begin → Verdict

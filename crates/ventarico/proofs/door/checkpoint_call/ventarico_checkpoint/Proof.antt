@@ -1,13 +1,14 @@
 -- `ventarico_checkpoint` keeps its promise: refused as `judgeCheckpoint` says, else done as `checkpointed` says.
-use Rattle.rules.specs.Lent.{Lent, lentOf}
-use denote.Ref.{now}
+use Rattle.rules.specs.Lent.{Lent}
+use Rattle.rules.specs.Areas.{areas}
 use Rattle.rules.specs.declared.Verdict.{Verdict}
 use Rattle.rules.specs.declared.Verdict.the-variants.{Go, Refuse}
 use mathlib.Core.Path.{_≡_, refl, sym, _∙_}
 use Rattle.rules.specs.Calls.{judgeCheckpoint, checkpointCall}
 use Rattle.rules.specs.Steps.{checkpointed}
+use Rattle.checkpoint.proofs.Laws.{checkpoint-logs}
 use Rattle.sound.proofs.Laws.{sound-shaped, sound-logged}
-use Rattle.ventarico.proofs.Went.{checkpoint-went}
+use Rattle.rules.proofs.Went.{checkpoint-went}
 use borrow.Author.Needs.{needs}
 use Rattle.ventarico.proofs.door.checkpoint_call.ventarico_checkpoint.Statement.{statement}
 use Rattle.ventarico.proofs.door.checkpoint_call.ventarico_checkpoint.Tie as tie
@@ -20,7 +21,7 @@ start j = j .before .before .before .before .before .before .before .before .bef
 abbrev lent : tie.After-judge-checkpoint → Lent
 lent j =
     let a = start j .args in
-    lentOf (now (a .fixed)) (now (a .marks)) (now (a .log)) (now (a .stored)) (now (a .tables)) (now (a .online)) (now (a .pool))
+    areas (a .fixed) (a .marks) (a .log) (a .stored) (a .tables) (a .online) (a .pool)
 
 -- what the rules say there, and so the judge: a refusal, or go
 abbrev word : tie.After-judge-checkpoint → Verdict
@@ -92,11 +93,14 @@ same-length-10 c = search needs
 
 -- go: what the step counted and left
 returns-2 : tie.Need-returns-2
-unfolding checkpointCall checkpointed
+unfolding checkpointCall
 returns-2 c =
     let did = c .before .before .before .before .before .before .before .before .before .before .before .checkpoint .ensures in
+    let j = c .before .before .before .before .before .before .before .before .before .before .before .before .before .before .before .before .before .before .before in
+    let d = checkpointed (start j .args .min-del) (start j .args .max-age) (lent j) in
+    let one = checkpoint-logs (start j .args .min-del) (start j .args .max-age) (lent j) in
     rw (went (c .before .before .before .before .before .before .before .before .before .before .before .before .before .before .before .before .before))
-    (record { reply = rw (did .0, did .1 .0) at (c .done .ensures); lent = did .1 .1 })
+    (record { reply = (rw (did .0, did .1 .0) at (c .done .ensures)) ∙ (λ i. record { code = 0; note = 0; reads = d .reads; writes = d .writes; logs = sym one i }); lent = did .1 .1 })
 
 pub ventarico-checkpoint-spec : {M : Type 1} → statement M
 ventarico-checkpoint-spec =

@@ -1,13 +1,13 @@
 -- `ventarico_close` keeps its promise: refused as `judgeClose` says, else done as `closed` says.
-use Rattle.rules.specs.Lent.{Lent, lentOf}
-use denote.Ref.{now}
+use Rattle.rules.specs.Lent.{Lent}
+use Rattle.rules.specs.Areas.{areas}
 use Rattle.rules.specs.declared.Verdict.{Verdict}
 use Rattle.rules.specs.declared.Verdict.the-variants.{Go, Refuse}
 use mathlib.Core.Path.{_≡_, refl, sym, _∙_}
 use Rattle.rules.specs.Calls.{judgeClose, closeCall}
 use Rattle.rules.specs.Steps.{closed}
 use Rattle.sound.proofs.Laws.{sound-shaped, sound-logged}
-use Rattle.ventarico.proofs.Went.{close-went}
+use Rattle.rules.proofs.Went.{close-went}
 use borrow.Author.Needs.{needs}
 use Rattle.ventarico.proofs.door.close_call.ventarico_close.Statement.{statement}
 use Rattle.ventarico.proofs.door.close_call.ventarico_close.Tie as tie
@@ -20,7 +20,7 @@ start j = j .before .before .before .before .before .before .before .before .bef
 abbrev lent : tie.After-judge-close → Lent
 lent j =
     let a = start j .args in
-    lentOf (now (a .fixed)) (now (a .marks)) (now (a .log)) (now (a .stored)) (now (a .tables)) (now (a .online)) (now (a .pool))
+    areas (a .fixed) (a .marks) (a .log) (a .stored) (a .tables) (a .online) (a .pool)
 
 -- what the rules say there, and so the judge: a refusal, or go
 abbrev word : tie.After-judge-close → Verdict

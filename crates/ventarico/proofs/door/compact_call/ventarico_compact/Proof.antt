@@ -1,13 +1,13 @@
 -- `ventarico_compact` keeps its promise: refused as `judgeCompact` says, else not due, or compacted.
-use Rattle.rules.specs.Lent.{Lent, lentOf}
-use denote.Ref.{now}
+use Rattle.rules.specs.Lent.{Lent}
+use Rattle.rules.specs.Areas.{areas}
 use Rattle.rules.specs.declared.Verdict.{Verdict}
 use Rattle.rules.specs.declared.Verdict.the-variants.{Go, Refuse}
 use mathlib.Core.Path.{_≡_, refl, sym, _∙_}
 use Rattle.rules.specs.Calls.{judgeCompact, compactCall}
 use Rattle.rules.specs.Steps.{compactStep, compacted}
 use Rattle.sound.proofs.Laws.{sound-shaped}
-use Rattle.ventarico.proofs.Went.{compact-went}
+use Rattle.rules.proofs.Went.{compact-went}
 use Rattle.ventarico.proofs.Laws.{was-due, was-not-due}
 use borrow.Author.Needs.{needs}
 use Rattle.ventarico.proofs.door.compact_call.ventarico_compact.Statement.{statement}
@@ -21,7 +21,7 @@ start j = j .before .before .before .before .before .before .before .before .bef
 abbrev lent : tie.After-judge-compact → Lent
 lent j =
     let a = start j .args in
-    lentOf (now (a .fixed)) (now (a .marks)) (now (a .log)) (now (a .stored)) (now (a .tables)) (now (a .online)) (now (a .pool))
+    areas (a .fixed) (a .marks) (a .log) (a .stored) (a .tables) (a .online) (a .pool)
 
 -- what the rules say there, and so the judge: a refusal, or go
 abbrev word : tie.After-judge-compact → Verdict

@@ -1,6 +1,6 @@
 -- `ventarico_evict` keeps its promise: refused as `judgeEvict` says, else done as `evicted` says.
-use Rattle.rules.specs.Lent.{Lent, lentOf}
-use denote.Ref.{now}
+use Rattle.rules.specs.Lent.{Lent}
+use Rattle.rules.specs.Areas.{areas}
 use Rattle.rules.specs.declared.Verdict.{Verdict}
 use Rattle.rules.specs.declared.Verdict.the-variants.{Go, Refuse}
 use mathlib.Core.Path.{_≡_, refl, sym, _∙_}
@@ -8,7 +8,7 @@ use native.Mathlib.Omega.{arith}
 use Rattle.rules.specs.Calls.{judgeEvict, evictCall}
 use Rattle.rules.specs.Steps.{lostNow, evicted}
 use Rattle.sound.proofs.Laws.{sound-shaped}
-use Rattle.ventarico.proofs.Went.{evict-went}
+use Rattle.rules.proofs.Went.{evict-went}
 use borrow.Author.Needs.{needs}
 use Rattle.ventarico.proofs.door.evict_call.ventarico_evict.Statement.{statement}
 use Rattle.ventarico.proofs.door.evict_call.ventarico_evict.Tie as tie
@@ -21,7 +21,7 @@ start j = j .before .before .before .before .before .before .before .before .bef
 abbrev lent : tie.After-judge-evict → Lent
 lent j =
     let a = start j .args in
-    lentOf (now (a .fixed)) (now (a .marks)) (now (a .log)) (now (a .stored)) (now (a .tables)) (now (a .online)) (now (a .pool))
+    areas (a .fixed) (a .marks) (a .log) (a .stored) (a .tables) (a .online) (a .pool)
 
 -- what the rules say there, and so the judge: a refusal, or go
 abbrev word : tie.After-judge-evict → Verdict
@@ -57,7 +57,7 @@ evict-requires c κs =
     let j = k .before .before in
     let w = evict-went (lent j) (start j .args .page) (went k) in
     let shape = sound-shaped (lent j) (w .0) in
-    let frames = c .before .params-of .ensures .2 in
+    let frames = c .before .params-of .ensures .frames in
     (omega (arith, frames, w .1), omega (arith, frames), omega (arith, frames), rw frames (w .2))
 
 done-requires : tie.Need-done-requires
@@ -81,7 +81,7 @@ returns-2 c =
     let k = c .before .before .before .before .before .before in
     let j = k .before .before in
     let s = lent j in
-    let tables = rw (c .before .before .before .before .before .params-of .ensures .2) at (c .before .before .before .evict .ensures) in
+    let tables = rw (c .before .before .before .before .before .params-of .ensures .frames) at (c .before .before .before .evict .ensures) in
     rw (went k) (record { reply = c .done .ensures; lent = λ i. lostNow s (tables i) (s .lost .online) (s .lost .pool) })
 
 pub ventarico-evict-spec : {M : Type 1} → statement M

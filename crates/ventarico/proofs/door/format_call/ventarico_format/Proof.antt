@@ -1,14 +1,15 @@
 -- `ventarico_format` keeps its promise: refused as `judgeFormat` says, else done as `formatted` says.
-use Rattle.rules.specs.Lent.{Lent, lentOf}
-use denote.Ref.{now}
+use Rattle.rules.specs.declared.Params.{Params}
+use Rattle.rules.specs.Lent.{Lent, given}
+use Rattle.rules.specs.Areas.{areas}
 use Rattle.rules.specs.declared.Verdict.{Verdict}
 use Rattle.rules.specs.declared.Verdict.the-variants.{Go, Refuse}
 use mathlib.Core.Path.{_≡_, refl, sym, _∙_}
 use mathlib.Core.Bool.{true}
 use Rattle.rules.specs.Calls.{judgeFormat, formatCall}
 use Rattle.rules.specs.Steps.{formatted}
-use Rattle.durable.proofs.Laws.{ranged, lengths-marks}
-use Rattle.ventarico.proofs.Went.{format-went}
+use Rattle.rules.proofs.Ranges.{ranged, lengths-marks}
+use Rattle.rules.proofs.Went.{format-went}
 use borrow.Author.Needs.{needs}
 use Rattle.ventarico.proofs.door.format_call.ventarico_format.Statement.{statement}
 use Rattle.ventarico.proofs.door.format_call.ventarico_format.Tie as tie
@@ -21,11 +22,15 @@ start j = j .before .before .before .before .before .before .before .before .bef
 abbrev lent : tie.After-judge-format → Lent
 lent j =
     let a = start j .args in
-    lentOf (now (a .fixed)) (now (a .marks)) (now (a .log)) (now (a .stored)) (now (a .tables)) (now (a .online)) (now (a .pool))
+    areas (a .fixed) (a .marks) (a .log) (a .stored) (a .tables) (a .online) (a .pool)
+
+-- what format is given
+abbrev asked : tie.After-judge-format → Params
+asked j = let a = start j .args in given (a .page-size) (a .pages) (a .frames) (a .online-size) (a .log-size)
 
 -- what the rules say there, and so the judge: a refusal, or go
 abbrev word : tie.After-judge-format → Verdict
-word j = let a = start j .args in judgeFormat (lent j) (a .size) (a .pages) (a .frames) (a .room) (a .span)
+word j = let a = start j .args in judgeFormat (lent j) (asked j) (a .last)
 
 refused : (k : tie.After-v) → word (k .before .before) ≡ Refuse (k .v .given .0 .0)
 refused k = sym (k .before .before .judge-format .ensures) ∙ k .v .given .1
@@ -51,10 +56,10 @@ format-requires c κs =
     let k = c .before .before .before .before .before in
     let j = k .before .before in
     let a = start j .args in
-    let w = format-went (lent j) (a .size) (a .pages) (a .frames) (a .room) (a .span) (went k) in (
+    let w = format-went (lent j) (asked j) (a .last) (went k) in (
       w .1,
-      lengths-marks (lent j) (a .size) (a .pages) (a .frames) (a .room) (a .span) {r = true} (sym (w .2)) refl .0,
-      ranged (a .size) (a .pages) (a .frames) (a .room) (a .span) (w .0) .pages-most,
+      lengths-marks (lent j) (asked j) {r = true} (sym (w .2)) refl .0,
+      ranged (asked j) (w .0) .pages-most,
     )
 
 done-requires : tie.Need-done-requires

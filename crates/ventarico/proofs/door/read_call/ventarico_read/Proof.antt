@@ -1,5 +1,6 @@
 -- `ventarico_read` keeps its promise: refused as `judgeRead` says, else done as `readStep` says.
-use Rattle.rules.specs.Lent.{Lent, lentOf}
+use Rattle.rules.specs.Lent.{Lent}
+use Rattle.rules.specs.Areas.{areas}
 use denote.Ref.{now}
 use Rattle.rules.specs.declared.Verdict.{Verdict}
 use Rattle.rules.specs.declared.Verdict.the-variants.{Go, Refuse}
@@ -8,7 +9,7 @@ use lib.ListN.{length}
 use Rattle.rules.specs.Calls.{judgeRead, readCall}
 use Rattle.rules.specs.Steps.{readStep}
 use Rattle.sound.proofs.Laws.{sound-shaped}
-use Rattle.ventarico.proofs.Went.{read-went}
+use Rattle.rules.proofs.Went.{read-went}
 use borrow.Author.Needs.{needs}
 use Rattle.ventarico.proofs.door.read_call.ventarico_read.Statement.{statement}
 use Rattle.ventarico.proofs.door.read_call.ventarico_read.Tie as tie
@@ -21,7 +22,7 @@ start j = j .before .before .before .before .before .before .before .before .bef
 abbrev lent : tie.After-judge-read → Lent
 lent j =
     let a = start j .args in
-    lentOf (now (a .fixed)) (now (a .marks)) (now (a .log)) (now (a .stored)) (now (a .tables)) (now (a .online)) (now (a .pool))
+    areas (a .fixed) (a .marks) (a .log) (a .stored) (a .tables) (a .online) (a .pool)
 
 -- what the rules say there, and so the judge: a refusal, or go
 abbrev word : tie.After-judge-read → Verdict

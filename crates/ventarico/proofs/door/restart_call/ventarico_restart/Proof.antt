@@ -1,13 +1,13 @@
 -- `ventarico_restart` keeps its promise: refused as `judgeRestart` says, else done as `restarted` says.
-use Rattle.rules.specs.Lent.{Lent, lentOf}
-use denote.Ref.{now}
+use Rattle.rules.specs.Lent.{Lent}
+use Rattle.rules.specs.Areas.{areas}
 use Rattle.rules.specs.declared.Verdict.{Verdict}
 use Rattle.rules.specs.declared.Verdict.the-variants.{Go, Refuse}
 use mathlib.Core.Path.{_≡_, refl, sym, _∙_}
 use Rattle.rules.specs.Calls.{judgeRestart, restartCall}
 use Rattle.rules.specs.Steps.{restarted}
-use Rattle.durable.proofs.Laws.{durable-sized, durable-logged, durable-log-records}
-use Rattle.ventarico.proofs.Went.{restart-went}
+use Rattle.rules.proofs.Ranges.{durable-sized, durable-logged, durable-log-records}
+use Rattle.rules.proofs.Went.{restart-went}
 use borrow.Author.Needs.{needs}
 use Rattle.ventarico.proofs.door.restart_call.ventarico_restart.Statement.{statement}
 use Rattle.ventarico.proofs.door.restart_call.ventarico_restart.Tie as tie
@@ -20,7 +20,7 @@ start j = j .before .before .before .before .before .before .before .before .bef
 abbrev lent : tie.After-judge-restart → Lent
 lent j =
     let a = start j .args in
-    lentOf (now (a .fixed)) (now (a .marks)) (now (a .log)) (now (a .stored)) (now (a .tables)) (now (a .online)) (now (a .pool))
+    areas (a .fixed) (a .marks) (a .log) (a .stored) (a .tables) (a .online) (a .pool)
 
 -- what the rules say there, and so the judge: a refusal, or go
 abbrev word : tie.After-judge-restart → Verdict

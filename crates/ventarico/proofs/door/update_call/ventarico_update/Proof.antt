@@ -1,6 +1,6 @@
 -- `ventarico_update` keeps its promise: refused as `judgeUpdate` says, else done as `updated` says.
-use Rattle.rules.specs.Lent.{Lent, lentOf}
-use denote.Ref.{now}
+use Rattle.rules.specs.Lent.{Lent}
+use Rattle.rules.specs.Areas.{areas}
 use Rattle.rules.specs.declared.Verdict.{Verdict}
 use Rattle.rules.specs.declared.Verdict.the-variants.{Go, Refuse}
 use mathlib.Core.Path.{_≡_, refl, sym, _∙_}
@@ -9,7 +9,8 @@ use Rattle.rules.specs.Calls.{judgeUpdate, updateCall}
 use Rattle.rules.specs.Steps.{updated}
 use Rattle.sound.proofs.Laws.{sound-shaped}
 use Rattle.rules.proofs.Verdicts.{number-most}
-use Rattle.ventarico.proofs.Went.{update-went, online-zero}
+use Rattle.rules.proofs.Clauses.{online-zero}
+use Rattle.rules.proofs.Went.{update-went}
 use borrow.Author.Needs.{needs}
 use Rattle.ventarico.proofs.door.update_call.ventarico_update.Statement.{statement}
 use Rattle.ventarico.proofs.door.update_call.ventarico_update.Tie as tie
@@ -22,7 +23,7 @@ start j = j .before .before .before .before .before .before .before .before .bef
 abbrev lent : tie.After-judge-update → Lent
 lent j =
     let a = start j .args in
-    lentOf (now (a .fixed)) (now (a .marks)) (now (a .log)) (now (a .stored)) (now (a .tables)) (now (a .online)) (now (a .pool))
+    areas (a .fixed) (a .marks) (a .log) (a .stored) (a .tables) (a .online) (a .pool)
 
 -- what the rules say there, and so the judge: a refusal, or go
 abbrev word : tie.After-judge-update → Verdict

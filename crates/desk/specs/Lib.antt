@@ -1,0 +1,2 @@
+-- What the statements of `desk` cite.
+pub mod Desk

@@ -1,0 +1,4 @@
+-- The laws that the proofs of `journalplay` cite.
+pub mod Looks
+pub mod Restores
+pub mod Judges

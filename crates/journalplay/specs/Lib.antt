@@ -1,0 +1,2 @@
+-- What the inner contracts of `journalplay` cite.
+pub mod Seen

@@ -1,0 +1,2 @@
+-- What the theorem says.
+pub mod Trip

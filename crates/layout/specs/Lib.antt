@@ -1,0 +1,2 @@
+-- What the readers of the lent areas promise.
+pub mod Read

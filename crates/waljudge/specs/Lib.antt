@@ -1,0 +1,4 @@
+-- What the contracts of `waljudge` cite.
+pub mod Pass
+pub mod Judge
+pub mod Cases

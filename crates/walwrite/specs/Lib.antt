@@ -1,0 +1,3 @@
+-- What the contracts of `walwrite` cite.
+pub mod Image
+pub mod Write
