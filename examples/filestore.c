@@ -456,13 +456,15 @@ static bool write_header(struct filestore *f, uint32_t state, uint32_t applying)
     return write_all(f->file, head, sizeof head, BLOCK * (f->header_number % 2)) && sync_bytes(f->file);
 }
 
-/* Reads the newer of the two headers that are right. */
+/* Reads the newer of the two headers that are right. One that cannot be read may be the newer: then none is taken. */
 static bool read_header(struct filestore *f)
 {
     bool found = false;
     for (uint32_t slot = 0; slot < 2; slot++) {
         uint8_t head[FILE_HEADER];
-        if (!read_all(f->file, head, sizeof head, BLOCK * slot) || memcmp(head, file_word, sizeof file_word) != 0 ||
+        if (!read_all(f->file, head, sizeof head, BLOCK * slot))
+            return false;
+        if (memcmp(head, file_word, sizeof file_word) != 0 ||
             get32(head + FILE_HEADER - 4) != crc32(0, head, FILE_HEADER - 4) ||
             (found && get64(head + 24) < f->header_number))
             continue;
@@ -517,8 +519,9 @@ static struct journal_head read_journal_head(int journal)
     struct journal_head newest = {.found = false};
     for (uint32_t slot = 0; slot < 2; slot++) {
         uint8_t head[JOURNAL_HEADER];
-        if (!read_all(journal, head, sizeof head, BLOCK * slot) ||
-            memcmp(head, journal_word, sizeof journal_word) != 0 ||
+        if (!read_all(journal, head, sizeof head, BLOCK * slot))
+            return (struct journal_head){.found = false};
+        if (memcmp(head, journal_word, sizeof journal_word) != 0 ||
             get32(head + JOURNAL_HEADER - 4) != crc32(0, head, JOURNAL_HEADER - 4) ||
             (newest.found && get64(head + 24) < newest.generation))
             continue;
@@ -802,7 +805,7 @@ static bool open_file(struct filestore *f, int flags, int lock_kind)
         return refuse(f, FILESTORE_NO_STORE, "the file is empty", "take back a copy of both files; or remove both, and "
             "filestore_create makes a new store");
     if (!read_header(f))
-        return refuse(f, FILESTORE_NO_STORE, "the file is no store of this host, or both its headers are damaged",
+        return refuse(f, FILESTORE_NO_STORE, "the file is no store of this host, or its headers cannot be read",
             "see that the name is right, or take back a copy of both files");
     return true;
 }
@@ -914,7 +917,7 @@ static bool judge(struct filestore *f, const uint8_t *journal)
     struct journal_head head = read_journal_head(f->journal);
     if (!head.found || memcmp(head.identity, f->identity, sizeof head.identity) != 0)
         return refuse_journal(f, head.found ? "the journal is another store's" :
-                "the journal is none of this host, or both its headers are damaged",
+                "the journal is none of this host, or its headers cannot be read",
             f->state == REST ? "move it away: the file is whole without it" : "put back the file's own journal");
     if (head.length != f->journal_length || f->journal_length < least_journal(f))
         return refuse_journal(f, "the journal was cut or grown", "put back a copy of both files");
@@ -1023,7 +1026,8 @@ static bool take_over(struct filestore *f)
     if (!come_to_rest(f))
         return refuse_by_system(f, "the file");
     if (f->talk && held > 0)
-        fprintf(f->talk, "  (the journal held %" PRIu32 " records; the file has taken them in)\n", held);
+        fprintf(f->talk, "  (the journal held %" PRIu32 " record%s, which the file has taken in)\n", held,
+            held == 1 ? "" : "s");
     if (f->journal < 0 && !make_journal(f))
         return refuse_by_system(f, "a new journal");
     return new_generation(f) || refuse_by_system(f, "a new generation");

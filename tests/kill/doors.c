@@ -476,6 +476,37 @@ static void test_pieces(void)
     free(file.bytes);
 }
 
+/* Each read of an opening is interrupted or cut short, and nobody sees it; or it fails, and the store is refused. */
+static void test_reads(void)
+{
+    topic = "reads";
+    make(path);
+    struct copy journal = copy_of(beside(path)), file = copy_of(path);
+    shim = (struct shim){0};
+    CHECK(holds_both());
+    unsigned long reads = shim.reads;
+    CHECK(reads > 6);
+    for (unsigned long i = 1; i <= reads; i++) {
+        put_copy(path, file);
+        put_copy(beside(path), journal);
+        shim = (struct shim){.read_at = i, .deed = SHIM_INTERRUPT};
+        CHECK(holds_both());
+        put_copy(path, file);
+        put_copy(beside(path), journal);
+        shim = (struct shim){.read_at = i, .deed = SHIM_SHORT};
+        CHECK(holds_both());
+        put_copy(path, file);
+        put_copy(beside(path), journal);
+        shim = (struct shim){.read_at = i, .deed = SHIM_FAIL};
+        CHECK(!opens());
+        filestore_drop(&f);
+        shim = (struct shim){0};
+        CHECK(holds_both());
+    }
+    free(journal.bytes);
+    free(file.bytes);
+}
+
 /* ---- Damage. */
 
 enum { FIRST = 1, LAST = 20 };
@@ -753,6 +784,7 @@ bool doors(const char *store)
     test_locks();
     test_journals(folder);
     test_pieces();
+    test_reads();
     test_flips();
     test_scrub();
     test_view();
