@@ -182,7 +182,7 @@ impl<S: Store + Clone> Bench<S> {
             two.run_all(&some);
             judge(same(&one, &two, k));
         }
-        judge(bench_wal::table(layouts::log_writer(), true).map(drop));
+        judge(bench_wal::check(layouts::log_writer()));
         (passed, wrong)
     }
 }
@@ -219,7 +219,7 @@ pub fn command<S: Store + Clone>(store: &S, linked: bool, words: &[String]) -> O
             write(file, &svg(&panels, 2, "across: rows in the table"))?;
             Ok(text)
         }),
-        ["wal"] => bench_wal::table(layouts::log_writer(), false),
+        ["wal"] => bench_wal::table(layouts::log_writer()),
         ["flash"] => Ok(flash::tables(store)),
         ["flash", file] => {
             write(file, &svg(&flash::panels(store), 3, "across: frames; k = 4")).map(|()| flash::tables(store))

@@ -5,14 +5,17 @@
 //! take turns, as in bench.rs.
 
 use crate::areas::{Areas, Lent, Reply, Sizes};
-use crate::bench::{clock, in_turn, micros, Cost, Middle};
+use crate::bench::{clock, in_turn, micros, Cost, Middle, Rounds};
 use crate::calls::{Call, Store};
 use crate::twin::Twin;
 use crate::wal::{self, Given, Judged, Wal};
 use std::hint::black_box;
+use std::rc::Rc;
 use std::time::{Duration, Instant};
 
 const ROUNDS: usize = 21;
+/// Through the table, so that whatever slows the machine down for a while is shared by its rows.
+const PASSES: usize = 3;
 /// How long a round may take, and the least and the greatest number of its calls.
 const ROUND: Duration = Duration::from_millis(2);
 const CALLS: (usize, usize) = (3, 200);
@@ -126,81 +129,109 @@ fn round(clock: f64, mut call: impl FnMut()) -> f64 {
     Middle::of((0..calls.clamp(CALLS.0, CALLS.1)).map(|_| once())).median - clock
 }
 
-/// A row: the library's and the plain C's cost, memcpy of as many bytes, and the plain C beside itself.
-fn row(name: &str, bytes: usize, clock: f64, mut call: impl FnMut(usize)) -> (String, f64, f64) {
-    let rounds: Vec<_> = (0..ROUNDS).map(|i| in_turn(i, |which| round(clock, || call(which)))).collect();
-    let noise: Vec<_> = (0..ROUNDS).map(|i| in_turn(i, |_| round(clock, || call(1)))).collect();
-    let (from, mut to) = (vec![7u8; bytes], vec![0u8; bytes]);
-    let copied = Middle::of((0..ROUNDS).map(|_| {
-        round(clock, || {
-            to.copy_from_slice(black_box(&from));
-            black_box(&mut to);
-        })
-    }));
-    let Cost { each: [one, two], ratio } = Cost::of(&rounds);
-    let rate = |micros: f64| (bytes as f64 / micros) as u64;
-    let text = format!(
-        "| {name} | {one:.2} | {two:.2} | {:.2} | {:.2} to {:.2} | {} | {} |\n",
-        ratio.median,
-        ratio.from,
-        ratio.to,
-        rate(one),
-        rate(copied.median)
-    );
-    (text, ratio.median, Cost::of(&noise).ratio.median)
+/// A row of the table: what is measured on the library (0) and on the plain C (1).
+struct Row<'a> {
+    name: String,
+    /// Of the log.
+    bytes: usize,
+    call: Box<dyn FnMut(usize) + 'a>,
+    rounds: Rounds,
+    /// The plain C beside itself.
+    noise: Rounds,
+    /// memcpy of as many bytes.
+    copied: Vec<f64>,
 }
 
-/// The table of `bench wal`. Both must make and judge the same bytes.
-pub fn table(library: &dyn Wal, quick: bool) -> Result<String, String> {
+impl<'a> Row<'a> {
+    fn new(name: String, bytes: usize, call: impl FnMut(usize) + 'a) -> Row<'a> {
+        Row { name, bytes, call: Box::new(call), rounds: Vec::new(), noise: Vec::new(), copied: Vec::new() }
+    }
+
+    fn measure(&mut self, rounds: usize, clock: f64) {
+        let (from, mut to) = (vec![7u8; self.bytes], vec![0u8; self.bytes]);
+        for i in 0..rounds {
+            self.rounds.push(in_turn(i, |which| round(clock, || (self.call)(which))));
+            self.noise.push(in_turn(i, |_| round(clock, || (self.call)(1))));
+            self.copied.push(round(clock, || {
+                to.copy_from_slice(black_box(&from));
+                black_box(&mut to);
+            }));
+        }
+    }
+
+    fn text(&self) -> String {
+        let Cost { each: [one, two], ratio } = Cost::of(&self.rounds);
+        let rate = |micros: f64| (self.bytes as f64 / micros) as u64;
+        let copied = Middle::of(self.copied.iter().copied()).median;
+        format!(
+            "| {} | {one:.2} | {two:.2} | {:.2} | {:.2} to {:.2} | {} | {} |\n",
+            self.name,
+            ratio.median,
+            ratio.from,
+            ratio.to,
+            rate(one),
+            rate(copied)
+        )
+    }
+}
+
+/// The logs that are measured, made by both: they must be the same, and judged the same. Then the table's rows.
+fn rows(library: &dyn Wal) -> Result<Vec<Row<'_>>, String> {
     let both: [&dyn Wal; 2] = [library, &Plain];
-    let clock = clock();
-    let mut text = "| What | Archive, µs | Plain C, µs | Ratio | Middle half | Archive, MB/s | memcpy, MB/s |\n\
-                    |---|---|---|---|---|---|---|\n"
-        .to_string();
-    let (mut ratios, mut noise) = (Vec::new(), Vec::new());
-    let mut logs = Vec::new();
+    let (mut rows, mut logs) = (Vec::new(), Vec::new());
     for Written { name, sizes, listed } in WRITTEN {
-        let store = store_of(sizes);
+        let store = Rc::new(store_of(sizes));
         let list: Vec<u32> = (0..listed).collect();
         let bytes = wal::length(list.len(), sizes.page_size);
         for (order, said) in [(0, "lowest"), (1, "highest")] {
             let given = Given { salts: [0xdead_beef, 0x0102_0304], sequence: 7, order };
-            let targets = both.map(|writer| {
+            let [one, two] = both.map(|writer| {
                 let mut target = vec![0; bytes];
                 let reply = writer.write(&store, &list, &mut target, &given);
                 (reply, target)
             });
-            if targets[0] != targets[1] {
+            if one != two {
                 return Err(format!("write, {name}: the library and the plain C do not write the same log"));
             }
-            let [(_, mut target), _] = targets;
-            logs.push((format!("judge, {name}, {said} byte first"), target.clone()));
-            if !quick {
-                let (line, ratio, same) = row(&format!("write, {name}, {said} byte first"), bytes, clock, |which| {
-                    black_box(both[which].write(&store, black_box(&list), &mut target, &given));
-                });
-                text += &line;
-                ratios.push(ratio);
-                noise.push(same);
-            }
+            logs.push((format!("judge, {name}, {said} byte first"), one.1.clone()));
+            let (store, list, mut target) = (Rc::clone(&store), list.clone(), one.1);
+            rows.push(Row::new(format!("write, {name}, {said} byte first"), bytes, move |which| {
+                black_box(both[which].write(&store, black_box(&list), &mut target, &given));
+            }));
         }
     }
     logs.push(("judge, 32 pages of 65,536 bytes, lowest byte first".to_string(), of_large_pages()));
-    for (name, log) in &logs {
-        let judged = both.map(|judge| judge.judge(log));
-        if judged[0] != judged[1] || judged[0].end != log.len() as u64 {
-            return Err(format!("{name}: {} and {}", judged[0], judged[1]));
+    for (name, log) in logs {
+        let [one, two] = both.map(|judge| judge.judge(&log));
+        if one != two || one.end != log.len() as u64 {
+            return Err(format!("{name}: {one} and {two}"));
         }
-        if !quick {
-            let (line, ratio, same) = row(name, log.len(), clock, |which| {
-                black_box(both[which].judge(black_box(log)));
-            });
-            text += &line;
-            ratios.push(ratio);
-            noise.push(same);
-        }
+        rows.push(Row::new(name, log.len(), move |which| {
+            black_box(both[which].judge(black_box(&log)));
+        }));
     }
-    let most = noise.iter().fold(1.0, |most, &one| f64::max(most, one));
+    Ok(rows)
+}
+
+/// What `bench quick` looks at: the same logs, nothing measured.
+pub fn check(library: &dyn Wal) -> Result<(), String> {
+    rows(library).map(drop)
+}
+
+/// The table of `bench wal`.
+pub fn table(library: &dyn Wal) -> Result<String, String> {
+    let mut rows = rows(library)?;
+    let clock = clock();
+    for _ in 0..PASSES {
+        rows.iter_mut().for_each(|row| row.measure(ROUNDS / PASSES, clock));
+    }
+    let mut text = "| What | Archive, µs | Plain C, µs | Ratio | Middle half | Archive, MB/s | memcpy, MB/s |\n\
+                    |---|---|---|---|---|---|---|\n"
+        .to_string();
+    rows.iter().for_each(|row| text += &row.text());
+    let median = |rounds: &Rounds| Cost::of(rounds).ratio.median;
+    let most = rows.iter().map(|row| median(&row.noise)).fold(1.0, f64::max);
+    let ratios: Vec<f64> = rows.iter().map(|row| median(&row.rounds)).collect();
     let up_to = |most: f64| ratios.iter().filter(|&&ratio| ratio <= most).count();
     text += &format!(
         "\n{} of {} ratios are at most 1.00, {} more within the noise: the plain C beside itself has up to {most:.2}.\n",
@@ -233,6 +264,6 @@ mod tests {
 
     #[test]
     fn the_plain_c_makes_and_judges_the_same_logs() {
-        table(&wal::Second, true).unwrap();
+        check(&wal::Second).unwrap();
     }
 }

@@ -18,7 +18,10 @@ pub const HEADER: usize = 32;
 pub const FRAME: usize = 24;
 
 pub const NOT_SOUND: u32 = 1;
-pub const BAD_ARGUMENT: u32 = 2;
+/// A listed page past the last one, or page 0 asked for.
+pub const BAD_PAGE: u32 = 2;
+/// A byte order that is none.
+pub const BAD_ORDER: u32 = 2;
 pub const SHORT_TARGET: u32 = 14;
 pub const EMPTY_LIST: u32 = 15;
 pub const BAD_HEADER: u32 = 16;
@@ -216,8 +219,11 @@ impl Wal for Second {
             return Reply::refused(NOT_SOUND);
         }
         let Sizes { page_size, pages, .. } = store.sizes();
-        if given.order > 1 || list.iter().any(|&page| page >= pages) {
-            return Reply::refused(BAD_ARGUMENT);
+        if list.iter().any(|&page| page >= pages) {
+            return Reply::refused(BAD_PAGE);
+        }
+        if given.order > 1 {
+            return Reply::refused(BAD_ORDER);
         }
         let whole = length(list.len(), page_size);
         if target.len() < whole {
@@ -253,7 +259,7 @@ impl Wal for Second {
 
     fn find(&self, file: &[u8], page: u32) -> Found {
         if page == 0 {
-            return Found { code: BAD_ARGUMENT, ..Found::default() };
+            return Found { code: BAD_PAGE, ..Found::default() };
         }
         match Log::open(file) {
             Err(code) => Found { code, ..Found::default() },

@@ -9,7 +9,7 @@ use crate::journal::{get, put};
 use crate::random::Random;
 use crate::states;
 use crate::twin::Twin;
-use crate::wal::{self, Found, Given, Judged, Second, Wal, FRAME, HEADER};
+use crate::wal::{self, Found, Given, Judged, Second, Wal, BAD_ORDER, BAD_PAGE, FRAME, HEADER};
 
 /// A writer and judge under test: every call is compared, and its guards are looked at.
 pub struct Trial<'a> {
@@ -283,7 +283,7 @@ fn cases_of_judging(t: &mut Trial) -> Outcome {
         {
             t.must_find("five frames, commit in the third", &whole, page, right)?;
         }
-        t.must_find("page 0 asked", &whole, 0, Found { code: 2, ..NONE })?;
+        t.must_find("page 0 asked", &whole, 0, Found { code: BAD_PAGE, ..NONE })?;
         t.must_judge("no byte", &[], refused(16))?;
         t.must_judge("31 bytes", &whole[..31], refused(16))?;
         t.must_judge("a header alone", &whole[..32], accepted(0, 0))?;
@@ -422,10 +422,10 @@ fn cases_of_writing(t: &mut Trial) -> Outcome {
         t.must_write("an empty list, just a header's room", &store, &[], 32, &given, reply(15))?;
         t.must_write("an empty list, under a header's room", &store, &[], 31, &given, reply(14))?;
         for page in [6, 7, 1024, 1 << 31, u32::MAX] {
-            t.must_write("a page past the last", &store, &[0, page, 1], whole, &given, reply(2))?;
+            t.must_write("a page past the last", &store, &[0, page, 1], whole, &given, reply(BAD_PAGE))?;
         }
         for order in [2, 3, 256, 1 << 31, u32::MAX] {
-            t.must_write("no byte order", &store, &list, whole, &Given { order, ..given }, reply(2))?;
+            t.must_write("no byte order", &store, &list, whole, &Given { order, ..given }, reply(BAD_ORDER))?;
         }
         let (_, written) = t.write(&store, &list, &vec![0x5a; whole + 100], &given)?;
         if written[whole..] != [0x5a; 100] {
@@ -464,13 +464,15 @@ fn order_of_refusals(t: &mut Trial) -> Outcome {
         let list: &[u32] = if has(3) { &[] } else { &[1, 2] };
         let order = if has(1) { 2 } else { 1 };
         let room = if has(2) { 31 } else { 32 + 2 * 536 };
-        // A listed page out of range is the same refusal as the order, and stands in a list that is not empty.
+        // A listed page out of range stands in a list that is not empty.
         if has(4) && has(3) {
             continue;
         }
         let list = if has(4) { &[1, 6] } else { list };
         let given = Given { order, ..GIVEN[0] };
-        let first = [(has(0), 1), (has(1) || has(4), 2), (has(2), 14), (has(3), 15)].into_iter().find(|(has, _)| *has);
+        let first = [(has(0), 1), (has(4), BAD_PAGE), (has(1), BAD_ORDER), (has(2), 14), (has(3), 15)]
+            .into_iter()
+            .find(|(has, _)| *has);
         let right = first.map_or(Reply::done(2, 0, 0), |(_, code)| Reply::refused(code));
         t.must_write("several faults", store, list, room, &given, right)?;
     }
@@ -487,14 +489,14 @@ fn order_of_refusals(t: &mut Trial) -> Outcome {
         if has(2) {
             file[31] ^= 1;
         }
-        let first = [(has(0), 2), (has(1), 16), (has(2), 17)].into_iter().find(|(has, _)| *has);
+        let first = [(has(0), BAD_PAGE), (has(1), 16), (has(2), 17)].into_iter().find(|(has, _)| *has);
         let right = first.map_or(found(at(2)), |(_, code)| Found { code, ..NONE });
         t.must_find("several faults", &file, if has(0) { 0 } else { 2 }, right)?;
         let first = [(has(1), 16), (has(2), 17)].into_iter().find(|(has, _)| *has);
         let right = first.map_or(accepted(5, 32 + 3 * 536), |(_, code)| refused(code));
         t.must_judge("several faults", &file, right)?;
     }
-    t.must_find("no byte, page 0 asked", &[], 0, Found { code: 2, ..NONE })
+    t.must_find("no byte, page 0 asked", &[], 0, Found { code: BAD_PAGE, ..NONE })
 }
 
 /// Three frames, the second and third of them commits.

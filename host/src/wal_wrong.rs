@@ -7,7 +7,7 @@ use crate::areas::{Areas, Reply};
 use crate::journal::put;
 use crate::record::Record;
 use crate::sound;
-use crate::wal::{Found, Given, Judged, Wal};
+use crate::wal::{Found, Given, Judged, Wal, BAD_ORDER, BAD_PAGE};
 
 macro_rules! lies {
     ($($(#[doc = $said:literal])+ $name:ident,)*) => {
@@ -312,13 +312,14 @@ impl Wal for Wrong {
         let sizes = store.sizes();
         let size = sizes.page_size as usize;
         let bad_order = given.order > 1 && !self.is(Lie::AnyOrder);
-        let argument = bad_order || list.iter().any(|&page| page >= sizes.pages);
+        let bad_page = list.iter().any(|&page| page >= sizes.pages);
         let whole = 32 + list.len() * (24 + size);
         let (short, empty) = (target.len() < whole, list.is_empty());
+        let (page, order) = ((bad_page, BAD_PAGE), (bad_order, BAD_ORDER));
         let judged = match self.0 {
-            Lie::RoomFirst => [(short, 14), (argument, 2), (empty, 15)],
-            Lie::EmptyFirst => [(argument, 2), (empty, 15), (short, 14)],
-            _ => [(argument, 2), (short, 14), (empty, 15)],
+            Lie::RoomFirst => [(short, 14), page, order, (empty, 15)],
+            Lie::EmptyFirst => [page, order, (empty, 15), (short, 14)],
+            _ => [page, order, (short, 14), (empty, 15)],
         };
         if let Some((_, code)) = judged.into_iter().find(|(refused, _)| *refused) {
             return Reply::refused(code);
@@ -384,7 +385,7 @@ impl Wal for Wrong {
         let file = &file[..self.seen(file.len())];
         let opened = self.open(file);
         if page == 0 && !(self.is(Lie::PageLate) && opened.is_err()) {
-            return Found { code: 2, found: 0, at: 0 };
+            return Found { code: BAD_PAGE, found: 0, at: 0 };
         }
         match opened {
             Err(code) => Found { code, found: 0, at: 0 },
