@@ -66,6 +66,17 @@ fn crc32(pieces: &[&[u8]]) -> u32 {
     !crc
 }
 
+/// The checksum of a journal's record, which is no CRC: docs/FILESTORE.md, "F.journal, byte by byte".
+fn record_sum(pieces: &[&[u8]]) -> u32 {
+    let step = |sum: u64, group: &[u8]| {
+        let mut word = [0; 8];
+        word[..group.len()].copy_from_slice(group);
+        let product = (sum ^ u64::from_le_bytes(word)).wrapping_mul(0x9e37_79b9_7f4a_7c15);
+        product ^ product >> 32
+    };
+    pieces.concat().chunks(8).fold(0, step) as u32
+}
+
 fn get8(bytes: &[u8], at: usize) -> u64 {
     u64::from_le_bytes(bytes[at..at + 8].try_into().unwrap())
 }
@@ -142,7 +153,7 @@ fn journal<'a>(bytes: &'a [u8], identity: &[u8]) -> Option<Journal<'a>> {
     let whole = |at: usize| {
         let head = bytes.get(at..at + 24)?;
         let record = bytes.get(at + 4..at + 24 + get4(head, 4) as usize)?;
-        (get4(head, 0) == crc32(&[identity, &generation.to_le_bytes(), tie, record])).then_some(record)
+        (get4(head, 0) == record_sum(&[identity, &generation.to_le_bytes(), tie, record])).then_some(record)
     };
     let (mut records, mut at, mut before) = (Vec::new(), BODY, 0);
     // `record` begins behind the checksum: 0 length, 4 number, 8 synced, 12 the one before, 16 kind, 20 pieces.
@@ -391,7 +402,7 @@ pub mod tests {
                 let numbers = [body.len() as u32, i as u32 + 1, i as u32, before, 1];
                 let mut record: Vec<u8> = numbers.iter().flat_map(|number| number.to_le_bytes()).collect();
                 record.extend_from_slice(&body);
-                before = crc32(&[&IDENTITY, &generation.to_le_bytes(), &TIE, &record]);
+                before = record_sum(&[&IDENTITY, &generation.to_le_bytes(), &TIE, &record]);
                 journal.extend_from_slice(&before.to_le_bytes());
                 journal.extend_from_slice(&record);
                 journal.resize(journal.len().next_multiple_of(8), 0);
@@ -441,6 +452,11 @@ pub mod tests {
     #[test]
     fn the_checksum_is_the_usual_one() {
         assert_eq!(crc32(&[b"1234", b"56789"]), 0xcbf4_3926);
+        // The example of docs/FILESTORE.md.
+        let identity: Vec<u8> = (0..16).collect();
+        let (generation, tie) = (5u64.to_le_bytes(), 0x1122_3344_5566_7788u64.to_le_bytes());
+        let record: Vec<u8> = [0u32, 1, 0, 0, 3].iter().flat_map(|number| number.to_le_bytes()).collect();
+        assert_eq!(record_sum(&[&identity, &generation, &tie, &record]), 0xc41a_f3b4);
     }
 
     #[test]
