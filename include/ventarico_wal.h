@@ -1,7 +1,8 @@
 /* SQLite's write-ahead log: committed pages of a store written as one (ventarico_wal_write), and logs of other programs
  * judged (ventarico_wal_judge, ventarico_wal_find). docs/WAL.md has the bytes.
  *
- * The caller's duties are those of ventarico.h: each pointer is valid for its length, and no two lent slices overlap.
+ * The caller's duties are those of ventarico.h: each pointer is valid for its length, the list is aligned, and no two
+ * lent slices overlap.
  * Whatever is passed, a call ends, does nothing undefined and answers one of the codes below; a refused call has
  * changed no byte.
  */

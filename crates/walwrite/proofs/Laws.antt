@@ -12,8 +12,9 @@ use lib.Dec.{eqb, leb, ltb}
 use borrow.Author.Tests.{lt-ltb, le-ltb, ltb-true, ltb-false, le-leb, lt-leb, leb-true, eqb-false, eq-eqb, ne-eqb}
 use Rattle.word.proofs.Tests.{so, not-so}
 use Rattle.record.specs.Part.{withPart}
-use Rattle.record.specs.Rows.{rows, keep}
-use Rattle.record.specs.Record.{chosen, applied}
+use Rattle.record.specs.Rows.{rowAt, rows, consIf, keep}
+use Rattle.record.proofs.Changes.{applied-keep}
+use Rattle.record.specs.Record.{pageOf, committed, committedOn, chosen, apply, applied}
 use Rattle.rules.specs.declared.Bad.the-variants.{Page, Parameter}
 use Rattle.rules.specs.declared.Refusal.the-variants.{NotSound, Argument}
 use Rattle.rules.specs.declared.Reply.{Reply}
@@ -56,13 +57,43 @@ pub below-done : (pages i : ℕ) (l : List ℕ) (t : Bool) → length l ≤ i �
 unfolding every
 below-done pages i l t h inv = rw (drop-of-length-le l h) at inv
 
+-- `next_of`: a row of another page is passed by, up to the end
+pub scan-turn : (p m i q : ℕ) (l : List ℕ) (k : List (List ℕ)) → i < m → q ≡ pageOf (rowAt 19 l i) → (q ≡ p → ⊥) → keep (committedOn p) (rows 19 (m - i) l i) ≡ k → keep (committedOn p) (rows 19 (m - (i + 1)) l (i + 1)) ≡ k
+unfolding rows keep
+scan-turn p m i q l k h e n inv =
+    let d : m - i ≡ suc (m - (i + 1)) = omega arith in
+    let f : eqb (pageOf (rowAt 19 l i)) p ≡ false = ne-eqb (pageOf (rowAt 19 l i)) p (λ (z : pageOf (rowAt 19 l i) ≡ p). n (e ∙ z)) in
+    sym (ap (λ (t : Bool). consIf (t && committed (rowAt 19 l i)) (rowAt 19 l i) (keep (committedOn p) (rows 19 (m - (i + 1)) l (i + 1)))) f) ∙ (rw d at inv)
+
+-- `fold_page`: from its first row of the page on; a turn, its end
+pub fold-start : (p m i : ℕ) (l g : List ℕ) → keep (committedOn p) (rows 19 (m - i) l i) ≡ keep (committedOn p) (rows 19 (m - 0) l 0) → applied (keep (committedOn p) (rows 19 (m - i) l i)) g ≡ applied (keep (committedOn p) (rows 19 m l 0)) g
+fold-start p m i l g e =
+    let d : m - 0 ≡ m = omega arith in
+    ap (λ (k : List (List ℕ)). applied k g) e ∙ ap (λ (n : ℕ). applied (keep (committedOn p) (rows 19 n l 0)) g) d
+
+pub fold-more : (p m i j : ℕ) (l g g′ t : List ℕ) → i < m → g′ ≡ applied (keep (chosen true p) (rows 19 (i + 1 - i) l i)) g → keep (committedOn p) (rows 19 (m - j) l j) ≡ keep (committedOn p) (rows 19 (m - (i + 1)) l (i + 1)) → applied (keep (committedOn p) (rows 19 (m - i) l i)) g ≡ t → applied (keep (committedOn p) (rows 19 (m - j) l j)) g′ ≡ t
+unfolding rows keep applied
+fold-more p m i j l g g′ t h e f inv =
+    let d : m - i ≡ suc (m - (i + 1)) = omega arith in
+    let one : i + 1 - i ≡ 1 = omega arith in
+    let r : List ℕ = rowAt 19 l i in
+    let after : List (List ℕ) = rows 19 (m - (i + 1)) l (i + 1) in
+    let s : g′ ≡ cond (committedOn p r) (apply r g) g = e ∙ ap (λ (n : ℕ). applied (keep (committedOn p) (rows 19 n l i)) g) one ∙ applied-keep (committedOn p) r [] g in
+    ap (λ (k : List (List ℕ)). applied k g′) f
+    ∙ ap (λ (x : List ℕ). applied (keep (committedOn p) after) x) s
+    ∙ sym (applied-keep (committedOn p) r after g)
+    ∙ (rw d at inv)
+
+pub fold-end : (p m i : ℕ) (l g t : List ℕ) → m ≤ i → applied (keep (committedOn p) (rows 19 (m - i) l i)) g ≡ t → g ≡ t
+unfolding rows keep applied
+fold-end p m i l g t h inv = let d : m - i ≡ 0 = omega arith in rw d at inv
+
 -- `put_image`: the stored page, then its committed rows
-pub image-put : (stored online g₁ g₂ : List ℕ) (size m p : ℕ) → g₁ ≡ take (p * size + size - p * size) (drop (p * size) stored) → g₂ ≡ applied (keep (chosen true p) (rows 19 (m - 0) online 0)) g₁ → g₂ ≡ imageIn size stored online m p
+pub image-put : (stored online g₁ g₂ : List ℕ) (size m p : ℕ) → g₁ ≡ take (p * size + size - p * size) (drop (p * size) stored) → g₂ ≡ applied (keep (committedOn p) (rows 19 m online 0)) g₁ → g₂ ≡ imageIn size stored online m p
 unfolding imageIn
 image-put stored online g₁ g₂ size m p e₁ e₂ =
     let d : p * size + size - p * size ≡ size = omega arith in
-    let n : m - 0 ≡ m = omega arith in
-    e₂ ∙ (λ i. applied (keep (chosen true p) (rows 19 (n i) online 0)) (e₁ i)) ∙ ap (λ (k : ℕ). applied (keep (chosen true p) (rows 19 m online 0)) (take k (drop (p * size) stored))) d
+    e₂ ∙ ap (λ (x : List ℕ). applied (keep (committedOn p) (rows 19 m online 0)) x) e₁ ∙ ap (λ (k : ℕ). applied (keep (committedOn p) (rows 19 m online 0)) (take k (drop (p * size) stored))) d
 
 -- `write_frame`: what stands behind the 24 bytes of the fields is the image
 image-part : (f ys : List ℕ) → 24 ≤ length f → drop 24 (withPart 24 (length f - 24) f ys) ≡ ys

@@ -3,8 +3,10 @@
 ghost use mathlib.Core.Path.{_≡_};
 ghost use mathlib.Core.Bool.{true, cond};
 ghost use mathlib.Core.List.{_++_};
-ghost use Prim.Native.Nat.{_+_, _*_, _≤_, _<_};
+ghost use Prim.Native.Nat.{_+_, _*_, _-_, _≤_, _<_};
 ghost use lib.ListN.{length, take, drop};
+ghost use Rattle.record.specs.Rows.{rows, keep};
+ghost use Rattle.record.specs.Record.{committedOn, applied};
 ghost use Rattle.rules.specs.Areas.{before};
 ghost use Rattle.wal.specs.Layout.{frameSize};
 ghost use Rattle.wal.specs.Written.{imageSums, frameBytes, framesBytes, written};
@@ -90,6 +92,34 @@ fn judge_write(
     may_write(given.size as usize, given.pages as u32, list, room, order)
 }
 
+// The first row of page p from a row on; m where there is none. Most rows are of other pages: this loop passes them by.
+fn next_of(online: &[u8], from: usize, m: usize, p: PageNo) -> usize
+    requires { ⌜ (m * 19 ≤ length (now online)) × (from ≤ m) ⌝ }
+    ensures { λ r. ⌜ (r ≤ m) × (from ≤ r) × (keep (committedOn (p .0)) (rows 19 (m - r) (now (online .entry)) r) ≡ keep (committedOn (p .0)) (rows 19 (m - from) (now (online .entry)) from)) ⌝ }
+{
+    let mut i = from;
+    while i < m {
+        let q = record::page_of(online, 19, i);
+        if q.0 == p.0 {
+            return i;
+        }
+        i += 1;
+    }
+    i
+}
+
+// The page g with its committed rows applied in table order.
+fn fold_page(online: &[u8], m: usize, p: PageNo, g: &mut [u8])
+    requires { ⌜ m * 19 ≤ length (now online) ⌝ }
+    ensures { λ r. ⌜ now (g .exit) ≡ applied (keep (committedOn (p .0)) (rows 19 m (now (online .entry)) 0)) (now (g .entry)) ⌝ }
+{
+    let mut i = next_of(online, 0, m, p);
+    while i < m {
+        apply::fold(online, i, i + 1, p, true, g);
+        i = next_of(online, i + 1, m, p);
+    }
+}
+
 // A page's image in its place: the stored page with its committed online records applied in table order.
 fn put_image(g: &mut [u8], stored: &[u8], size: usize, p: PageNo, online: &[u8], m: usize)
     requires { ⌜ (length (now g) ≡ size) × (p .0 * size + size ≤ length (now stored)) × (m * 19 ≤ length (now online)) ⌝ }
@@ -98,7 +128,7 @@ fn put_image(g: &mut [u8], stored: &[u8], size: usize, p: PageNo, online: &[u8],
     let a = p.0 * size;
     let e = a + size;
     fill::copy(g, &stored[a..e]);
-    apply::fold(online, 0, m, p, true, g);
+    fold_page(online, m, p, g);
 }
 
 // The frame of a page, numbered from 1 there; the sums gone on over it.

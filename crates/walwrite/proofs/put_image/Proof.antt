@@ -22,14 +22,14 @@ part-copy-end c = search needs
 copy-requires : tie.Need-copy-requires
 copy-requires c κs = search needs
 
-fold-requires : tie.Need-fold-requires
-fold-requires c κs = search needs
+fold-page-requires : tie.Need-fold-page-requires
+fold-page-requires c κs = search needs
 
 same-length : tie.Need-same-length
 same-length c = search needs
 
 returns : tie.Need-returns
-returns c = image-put (now (c .before .before .before .before .before .before .before .before .before .before .before .before .before .args .stored)) _ _ _ _ _ _ (c .before .before .before .before .before .before .copy .ensures) (c .before .before .fold .ensures)
+returns c = image-put (now (c .before .before .before .before .before .before .before .before .before .before .before .before .before .args .stored)) _ _ _ _ _ _ (c .before .before .before .before .before .before .copy .ensures) (c .before .before .fold-page .ensures)
 
 pub put-image-spec : {M : Type 1} → statement M
 put-image-spec =
@@ -41,6 +41,6 @@ put-image-spec =
     part-copy-start
     part-copy-end
     copy-requires
-    fold-requires
+    fold-page-requires
     same-length
     returns)
