@@ -54,6 +54,18 @@ pub fn bare(path: &Path) -> Result<Found, String> {
     Ok(Found { what: what.into(), areas, checks: Vec::new() })
 }
 
+/// The checksum of a journal's record, over several pieces that are filled up with zeros to a multiple of 8 bytes. No CRC:
+/// a record of checksums would hold CRCs beside what they are of.
+fn record_sum(pieces: &[&[u8]]) -> u32 {
+    let mut bytes = pieces.concat();
+    bytes.resize(bytes.len().next_multiple_of(8), 0);
+    let sum = bytes.as_chunks::<8>().0.iter().fold(0u64, |sum, word| {
+        let sum = (sum ^ u64::from_le_bytes(*word)).wrapping_mul(0x9e37_79b9_7f4a_7c15);
+        sum ^ sum >> 32
+    });
+    sum as u32
+}
+
 /// CRC-32 as zlib has it, over several pieces.
 fn crc32(pieces: &[&[u8]]) -> u32 {
     let mut crc = u32::MAX;
@@ -142,7 +154,7 @@ fn journal<'a>(bytes: &'a [u8], identity: &[u8]) -> Option<Journal<'a>> {
     let whole = |at: usize| {
         let head = bytes.get(at..at + 24)?;
         let record = bytes.get(at + 4..at + 24 + get4(head, 4) as usize)?;
-        (get4(head, 0) == crc32(&[identity, &generation.to_le_bytes(), tie, record])).then_some(record)
+        (get4(head, 0) == record_sum(&[identity, &generation.to_le_bytes(), tie, record])).then_some(record)
     };
     let (mut records, mut at, mut before) = (Vec::new(), BODY, 0);
     // `record` begins behind the checksum: 0 length, 4 number, 8 synced, 12 the one before, 16 kind, 20 pieces.
@@ -391,7 +403,7 @@ pub mod tests {
                 let numbers = [body.len() as u32, i as u32 + 1, i as u32, before, 1];
                 let mut record: Vec<u8> = numbers.iter().flat_map(|number| number.to_le_bytes()).collect();
                 record.extend_from_slice(&body);
-                before = crc32(&[&IDENTITY, &generation.to_le_bytes(), &TIE, &record]);
+                before = record_sum(&[&IDENTITY, &generation.to_le_bytes(), &TIE, &record]);
                 journal.extend_from_slice(&before.to_le_bytes());
                 journal.extend_from_slice(&record);
                 journal.resize(journal.len().next_multiple_of(8), 0);
@@ -441,6 +453,11 @@ pub mod tests {
     #[test]
     fn the_checksum_is_the_usual_one() {
         assert_eq!(crc32(&[b"1234", b"56789"]), 0xcbf4_3926);
+        // The example of docs/FILESTORE.md: a record without a piece.
+        let identity: [u8; 16] = std::array::from_fn(|i| i as u8);
+        let words = [0u32, 1, 0, 0, 3].map(u32::to_le_bytes).concat();
+        let tie = 0x1122_3344_5566_7788u64.to_le_bytes();
+        assert_eq!(record_sum(&[&identity, &5u64.to_le_bytes(), &tie, &words]), 0xc41a_f3b4);
     }
 
     #[test]
