@@ -1,16 +1,17 @@
 /* The file-backed host. docs/FILESTORE.md has the bytes of both files and the argument in full; in short:
  *
- * F's body changes only while F's header says `applying`, and then only in parts that the journal holds whole and synced.
- * So at any moment the store is F's body with the journal's records put over it, in their order, and putting them there
- * once more changes nothing. A record counts if its checksum is right and it follows the record before it; so what a loss
- * leaves of the journal is a front of its records, and a sync that came back says how far that front reaches at least.
+ * F's body changes only while F's header says `applying`, and then only in parts that the journal holds whole and
+ * synced. So at any moment the store is F's body with the journal's records put over it, in their order, and putting
+ * them there once more changes nothing. A record counts if its checksum is right and it follows the record before it;
+ * so what a loss leaves of the journal is a front of its records, and a sync that came back says how far that front
+ * reaches at least.
  *
- *   come_to_rest   1 a last record: the new checksums of F's parts; sync      F: in use     the journal is needed
- *                  2 header `applying`, with the number of records; sync      F: applying   the journal is needed, to that record
- *                  3 the parts that the records touch, whole; sync            F: applying   the same
- *                  4 header `rest`; sync                                      F: rest       F alone is whole
- *   new_generation 5 the journal's header: next generation, a new tie; sync   F: rest       F alone is whole
- *                  6 header `in use`, with both; sync                         F: in use     the journal is needed
+ * come_to_rest    1 a last record: the new checksums of F's parts; sync   in use: the journal is needed
+ *                 2 header `applying`, so many records; sync              applying: the journal is needed, with as many
+ *                 3 the parts that the records touch, whole; sync         applying: the same
+ *                 4 header `rest`; sync                                   rest: F alone is whole
+ * new_generation  5 the journal's header: next generation, new tie; sync  rest: F alone is whole
+ *                 6 header `in use`, with both; sync                      in use: the journal is needed
  */
 #define _XOPEN_SOURCE 700
 #define _DEFAULT_SOURCE /* flock */
@@ -44,9 +45,10 @@ enum {
 static const uint8_t file_word[8] = {'v', 'e', 'n', 't', 'f', 'i', 'l', '2'};
 static const uint8_t journal_word[8] = {'v', 'e', 'n', 't', 'j', 'r', 'n', '2'};
 
-enum { REST = 0, IN_USE = 1, APPLYING = 2 };                                      /* F's state */
-enum { COMMIT = 1, COMPACT = 2, CLOSE = 3, CHECKPOINT = 4, FORMAT = 5, SUMS = 6, MEND = 7 }; /* a record's kind */
-enum { PART_MARKS, PART_LOG, PART_SUMS, PART_PAGES };                             /* parts of F; page p is PART_PAGES + p */
+/* F's state; a record's kind; the parts of F, of which page p is PART_PAGES + p. */
+enum { REST = 0, IN_USE = 1, APPLYING = 2 };
+enum { COMMIT = 1, COMPACT = 2, CLOSE = 3, CHECKPOINT = 4, FORMAT = 5, SUMS = 6, MEND = 7 };
+enum { PART_MARKS, PART_LOG, PART_SUMS, PART_PAGES };
 
 /* ---- Bytes. */
 
@@ -91,8 +93,9 @@ static uint32_t rounded_up(uint32_t number, uint32_t to)
 /* CRC-32 as zlib has it, by half bytes. */
 static uint32_t crc32(uint32_t crc, const uint8_t *bytes, size_t length)
 {
-    static const uint32_t half[16] = {0x00000000, 0x1db71064, 0x3b6e20c8, 0x26d930ac, 0x76dc4190, 0x6b6b51f4, 0x4db26158,
-        0x5005713c, 0xedb88320, 0xf00f9344, 0xd6d6a3e8, 0xcb61b38c, 0x9b64c2b0, 0x86d3d2d4, 0xa00ae278, 0xbdbdf21c};
+    static const uint32_t half[16] = {0x00000000, 0x1db71064, 0x3b6e20c8, 0x26d930ac, 0x76dc4190, 0x6b6b51f4,
+        0x4db26158, 0x5005713c, 0xedb88320, 0xf00f9344, 0xd6d6a3e8, 0xcb61b38c, 0x9b64c2b0, 0x86d3d2d4, 0xa00ae278,
+        0xbdbdf21c};
     crc = ~crc;
     for (size_t i = 0; i < length; i++) {
         crc = crc >> 4 ^ half[(crc ^ bytes[i]) & 15];
@@ -101,9 +104,9 @@ static uint32_t crc32(uint32_t crc, const uint8_t *bytes, size_t length)
     return ~crc;
 }
 
-/* The checksum of a record, by groups of eight bytes, the last one filled up with zeros. It is no CRC: pieces are bytes of
- * others, and may hold a CRC of their own next to what it covers. Then one such run may stand for another, as when a record
- * is torn and old bytes shine through, and a CRC around both does not see it. A product does. */
+/* The checksum of a record, by groups of eight bytes, the last one filled up with zeros. It is no CRC: pieces are bytes
+ * of others, and may hold a CRC of their own next to what it covers. Then one such run may stand for another, as when a
+ * record is torn and old bytes shine through, and a CRC around both does not see it. A product does. */
 static uint64_t mix(uint64_t state, const uint8_t *bytes, size_t length)
 {
     for (size_t i = 0; i < length; i += 8) {
@@ -353,11 +356,13 @@ static bool make_areas(struct filestore *f)
 /* A part of F has one checksum, and goes into the journal whole when a generation touches it first. */
 static struct filestore_place part(const struct filestore *f, uint32_t n)
 {
+    const struct filestore_place fixed = f->layout.fixed;
+    const uint32_t size = f->sizes.page_size;
     switch (n) {
-    case PART_MARKS: return (struct filestore_place){f->layout.fixed.at, f->layout.fixed.length + f->layout.marks.length};
+    case PART_MARKS: return (struct filestore_place){fixed.at, fixed.length + f->layout.marks.length};
     case PART_LOG: return f->layout.log;
     case PART_SUMS: return f->layout.sums;
-    default: return (struct filestore_place){f->layout.stored.at + f->sizes.page_size * (n - PART_PAGES), f->sizes.page_size};
+    default: return (struct filestore_place){f->layout.stored.at + size * (n - PART_PAGES), size};
     }
 }
 
@@ -451,13 +456,15 @@ static bool write_header(struct filestore *f, uint32_t state, uint32_t applying)
     return write_all(f->file, head, sizeof head, BLOCK * (f->header_number % 2)) && sync_bytes(f->file);
 }
 
-/* Reads the newer of the two headers that are right. */
+/* Reads the newer of the two headers that are right. One that cannot be read may be the newer: then none is taken. */
 static bool read_header(struct filestore *f)
 {
     bool found = false;
     for (uint32_t slot = 0; slot < 2; slot++) {
         uint8_t head[FILE_HEADER];
-        if (!read_all(f->file, head, sizeof head, BLOCK * slot) || memcmp(head, file_word, sizeof file_word) != 0 ||
+        if (!read_all(f->file, head, sizeof head, BLOCK * slot))
+            return false;
+        if (memcmp(head, file_word, sizeof file_word) != 0 ||
             get32(head + FILE_HEADER - 4) != crc32(0, head, FILE_HEADER - 4) ||
             (found && get64(head + 24) < f->header_number))
             continue;
@@ -512,7 +519,9 @@ static struct journal_head read_journal_head(int journal)
     struct journal_head newest = {.found = false};
     for (uint32_t slot = 0; slot < 2; slot++) {
         uint8_t head[JOURNAL_HEADER];
-        if (!read_all(journal, head, sizeof head, BLOCK * slot) || memcmp(head, journal_word, sizeof journal_word) != 0 ||
+        if (!read_all(journal, head, sizeof head, BLOCK * slot))
+            return (struct journal_head){.found = false};
+        if (memcmp(head, journal_word, sizeof journal_word) != 0 ||
             get32(head + JOURNAL_HEADER - 4) != crc32(0, head, JOURNAL_HEADER - 4) ||
             (newest.found && get64(head + 24) < newest.generation))
             continue;
@@ -721,8 +730,8 @@ static bool new_generation(struct filestore *f)
 
 static bool save_failed(struct filestore *f)
 {
-    fprintf(stderr, "filestore: %s with %s: a save failed: %s. Next: make room or mend the disk, then drop the store and "
-                    "open it again; what was accepted before is kept.\n", f->path, f->beside, strerror(errno));
+    fprintf(stderr, "filestore: %s with %s: a save failed: %s. Next: make room or mend the disk, then drop the store "
+                    "and open it again; what was accepted before is kept.\n", f->path, f->beside, strerror(errno));
     f->broken = true;
     return false;
 }
@@ -762,13 +771,15 @@ static bool refuse(struct filestore *f, enum filestore_refusal refusal, const ch
 static bool refuse_by_system(struct filestore *f, const char *what)
 {
     char why[160];
-    snprintf(why, sizeof why, "%s: %s", what, strerror(errno));
-    if (errno == ELOOP || errno == EISDIR)
+    int reason = errno;
+    snprintf(why, sizeof why, "%s: %s", what, strerror(reason));
+    if (reason == ELOOP || reason == EISDIR)
         return refuse(f, FILESTORE_NAME, why, "name the file itself: no symbolic link, folder or device");
-    if (errno == EWOULDBLOCK)
+    if (reason == EWOULDBLOCK)
         return refuse(f, FILESTORE_OPEN, "the store is open already, here or in another process",
             "drop it there, or take another file");
-    return refuse(f, FILESTORE_SYSTEM, why, "see that the folder is there, may be written and has room, then try again");
+    return refuse(f, FILESTORE_SYSTEM, why,
+        "see that the folder is there, may be written and has room, then try again");
 }
 
 static bool name_files(struct filestore *f, const char *path, FILE *talk)
@@ -779,13 +790,13 @@ static bool name_files(struct filestore *f, const char *path, FILE *talk)
     return (f->path && f->beside) || refuse_by_system(f, "memory");
 }
 
-/* Opens F, and learns from its header and `fixed` how it is laid out. */
+/* Opens F, and learns from its header what it is. */
 static bool open_file(struct filestore *f, int flags, int lock_kind)
 {
     f->file = open_plain(f->path, flags);
     if (f->file < 0 && errno == ENOENT)
-        return refuse(f, FILESTORE_NOT_THERE, "there is no such file", "see that the name is right; filestore_create makes a "
-            "new store");
+        return refuse(f, FILESTORE_NOT_THERE, "there is no such file",
+            "see that the name is right; filestore_create makes a new store");
     if (f->file < 0)
         return refuse_by_system(f, "the file");
     if (!lock(f->file, lock_kind) || !has_name(f->file, f->path))
@@ -794,7 +805,7 @@ static bool open_file(struct filestore *f, int flags, int lock_kind)
         return refuse(f, FILESTORE_NO_STORE, "the file is empty", "take back a copy of both files; or remove both, and "
             "filestore_create makes a new store");
     if (!read_header(f))
-        return refuse(f, FILESTORE_NO_STORE, "the file is no store of this host, or both its headers are damaged",
+        return refuse(f, FILESTORE_NO_STORE, "the file is no store of this host, or its headers cannot be read",
             "see that the name is right, or take back a copy of both files");
     return true;
 }
@@ -834,14 +845,19 @@ static bool has_damage(struct filestore *f, const char *file, const char *what, 
     return false;
 }
 
+static bool part_has_damage(struct filestore *f, uint32_t n)
+{
+    static const char *const names[PART_PAGES] = {"fixed with marks, part", "the log, part", "the checksums, part"};
+    return n < PART_PAGES ? has_damage(f, f->path, names[n], n) : has_damage(f, f->path, "page", n - PART_PAGES);
+}
+
 /* Counts the parts whose checksum is wrong. */
 static bool check_sums(struct filestore *f, const uint8_t *image)
 {
     bool good = true;
     for (uint32_t n = 0; n < parts(f); n++)
         if (!sum_is_right(f, image, n))
-            good = has_damage(f, f->path, n == PART_MARKS ? "marks, part" : n == PART_LOG ? "log, part" :
-                n == PART_SUMS ? "checksums, part" : "page", n < PART_PAGES ? n : n - PART_PAGES);
+            good = part_has_damage(f, n);
     return good;
 }
 
@@ -873,7 +889,8 @@ static bool judge_beside_rest(struct filestore *f, const struct journal_head *he
     }
     return head->generation <= f->generation ||
         refuse_journal(f, "the file is an older copy than the journal",
-            "put back the newer file; or, if the older one is wanted, move the journal away: the file is whole without it");
+            "put back the newer file; or, if the older one is wanted, move the journal away: the file is whole without "
+            "it");
 }
 
 static bool judge_in_use(struct filestore *f, const struct journal_head *head, const uint8_t *journal)
@@ -882,8 +899,8 @@ static bool judge_in_use(struct filestore *f, const struct journal_head *head, c
         return refuse_journal(f, head->generation > f->generation ?
                 "the file is an older copy than the journal, and its own journal is missing" :
                 "the journal is of another time, and the file's own is missing",
-            "put back the two files that belong together; or move this journal away and filestore_open_alone takes the file "
-            "as it stands");
+            "put back the two files that belong together; or move this journal away, and filestore_open_alone takes "
+            "the file as it stands");
     set_seed(f, f->generation, f->tie);
     if (!replay_all(f, journal))
         return refuse(f, FILESTORE_DAMAGED, "the journal has a record that fits no part of the file",
@@ -899,9 +916,9 @@ static bool judge(struct filestore *f, const uint8_t *journal)
 {
     struct journal_head head = read_journal_head(f->journal);
     if (!head.found || memcmp(head.identity, f->identity, sizeof head.identity) != 0)
-        return refuse_journal(f, head.found ? "the journal is another store's" : "the journal is none of this host, or both "
-            "its headers are damaged", f->state == REST ? "move it away: the file is whole without it" :
-            "put back the file's own journal");
+        return refuse_journal(f, head.found ? "the journal is another store's" :
+                "the journal is none of this host, or its headers cannot be read",
+            f->state == REST ? "move it away: the file is whole without it" : "put back the file's own journal");
     if (head.length != f->journal_length || f->journal_length < least_journal(f))
         return refuse_journal(f, "the journal was cut or grown", "put back a copy of both files");
     return f->state == REST ? judge_beside_rest(f, &head, journal) : judge_in_use(f, &head, journal);
@@ -961,8 +978,8 @@ static bool restart(struct filestore *f)
 }
 
 /* What can be read may be on no disk yet: a process that died has not synced it, or its sync has failed. So the header
- * that counts is written again, before the other one is lost, and so are the records that are not known to be synced; the
- * next sync covers these. */
+ * that counts is written again, before the other one is lost, and so are the records that are not known to be synced;
+ * the next sync covers these. */
 static bool rewrite_unsynced(struct filestore *f)
 {
     f->header_number--;
@@ -1001,12 +1018,16 @@ static bool make_journal(struct filestore *f)
 /* All is known to be right: F takes in what the journal holds, and a new generation begins. */
 static bool take_over(struct filestore *f)
 {
+    uint32_t held = f->records;
     if (!sync_folder(f->path)) /* a name that can be seen may be one that is not there for good */
         return refuse_by_system(f, "the folder");
     if (!rewrite_unsynced(f))
         return refuse_by_system(f, "the files");
     if (!come_to_rest(f))
         return refuse_by_system(f, "the file");
+    if (f->talk && held > 0)
+        fprintf(f->talk, "  (the journal held %" PRIu32 " record%s, which the file has taken in)\n", held,
+            held == 1 ? "" : "s");
     if (f->journal < 0 && !make_journal(f))
         return refuse_by_system(f, "a new journal");
     return new_generation(f) || refuse_by_system(f, "a new generation");
@@ -1044,14 +1065,16 @@ static bool make_file(struct filestore *f)
     if (r.code != VENTARICO_DONE)
         return refuse(f, FILESTORE_SIZES, filestore_meaning(r.code), "docs/LAYOUT.md, fixed, has the ranges");
     memcpy(f->saved + BODY, f->live + BODY, f->layout.length - BODY);
-    memset(f->touched, true, parts(f));
+    for (uint32_t n = 0; n < parts(f); n++)
+        f->touched[n] = true; /* so that all of them get a checksum */
     put_sums(f);
     f->generation = 1;
     char *draft = joined(f->path, ".new");
     f->file = draft ? begin_draft(draft) : -1;
     errno = f->file >= 0 && is_there(f->path) ? EEXIST : errno;
     bool good = f->file >= 0 && !is_there(f->path) && fill_random(f->identity, sizeof f->identity) &&
-        write_all(f->file, f->live, f->layout.length, 0) && write_header(f, REST, 0) && end_draft(f->file, draft, f->path);
+        write_all(f->file, f->live, f->layout.length, 0) && write_header(f, REST, 0) &&
+        end_draft(f->file, draft, f->path);
     free(draft);
     memcpy(f->saved + BODY, f->live + BODY, f->layout.length - BODY);
     if (good)
@@ -1067,8 +1090,9 @@ bool filestore_create(struct filestore *f, const char *path, struct filestore_si
     if (!sizes_in_range(sizes) || sizes.journal > INT32_MAX)
         return refuse(f, FILESTORE_SIZES, "a size is out of range", "docs/LAYOUT.md, fixed, has the ranges");
     if (is_there(f->path) || is_there(f->beside))
-        return refuse(f, FILESTORE_THERE, is_there(f->path) ? "the file is there already" : "a journal is there, without its "
-            "file", "filestore_open opens a store; for a new one take another name, or move away what is there");
+        return refuse(f, FILESTORE_THERE,
+            is_there(f->path) ? "the file is there already" : "a journal is there, without its file",
+            "filestore_open opens a store; for a new one take another name, or move away what is there");
     lay_out(f);
     if (!make_areas(f))
         return refuse_by_system(f, "memory");
@@ -1113,12 +1137,12 @@ uint32_t filestore_scrub(struct filestore *f)
     if (f->broken || !name_files(&on_disk, f->path, NULL))
         return 1;
     on_disk.view = true;
-    on_disk.file = dup(f->file);
+    on_disk.file = fcntl(f->file, F_DUPFD_CLOEXEC, 0);
     posix_fadvise(f->file, 0, 0, POSIX_FADV_DONTNEED);
     posix_fadvise(f->journal, 0, 0, POSIX_FADV_DONTNEED);
     if (on_disk.file < 0 || !read_header(&on_disk) || !read_body(&on_disk) || !load(&on_disk, O_RDONLY, false))
-        return filestore_drop(&on_disk), 1;
-    if (on_disk.damage == 0 && (on_disk.records != f->records || on_disk.header_number != f->header_number ||
+        on_disk.damage++;
+    else if (on_disk.damage == 0 && (on_disk.records != f->records || on_disk.header_number != f->header_number ||
         memcmp(on_disk.saved + BODY, f->saved + BODY, f->layout.length - BODY) != 0))
         has_damage(&on_disk, f->beside, "the last of its records,", f->records);
     uint32_t damage = on_disk.damage;
@@ -1151,8 +1175,8 @@ const char *filestore_meaning(uint32_t code)
     case VENTARICO_HELD: return "another open transaction holds these bytes; try again after its end";
     case VENTARICO_ONLINE_FULL: return "the online table is full; make a checkpoint with min_del 1, then try again";
     case VENTARICO_LOG_FULL: return "the log is full; make a checkpoint with min_del 1, then try again";
-    case VENTARICO_NUMBERS_END: return "the log numbers are used up; end all transactions, call filestore_format with 0, "
-                                       "then do this one again";
+    case VENTARICO_NUMBERS_END:
+        return "the log numbers are used up; end all transactions, call filestore_format with 0, then do it again";
     case VENTARICO_NO_FRAME: return "the page is in no frame; there is nothing to evict";
     case FILESTORE_BROKEN: return "the files were not written; drop the store and open it again";
     case FILESTORE_VIEWED: return "the store is only viewed; drop it, and filestore_open opens it for writing";

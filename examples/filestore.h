@@ -10,6 +10,8 @@
  * nothing that was committed is gone. filestore_sync syncs at once.
  *
  * When the journal is full, or the store is left, F takes in what the journal holds.
+ *
+ * A struct filestore is for one thread at a time, and, after a fork, for one of the two processes.
  */
 #ifndef FILESTORE_H
 #define FILESTORE_H

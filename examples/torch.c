@@ -52,8 +52,8 @@ static void open_store(void)
 
 static const char *name_of(uint64_t who)
 {
-    return who == NOBODY ? "nobody" : who == SCREEN ? "the screen" : who == RADIO ? "the radio" : who == GAME ? "the game" :
-        who == TORCH ? "the torch" : "a stranger";
+    return who == NOBODY ? "nobody" : who == SCREEN ? "the screen" : who == RADIO ? "the radio" :
+        who == GAME ? "the game" : who == TORCH ? "the torch" : "a stranger";
 }
 
 /* The memory is gone, and comes back with noise in it; the file stays. */

@@ -41,7 +41,7 @@ static struct counts *counting;
 
 #define REAL(name, type) ((type)(uintptr_t)dlsym(RTLD_NEXT, name))
 
-static void count(ssize_t bytes)
+static void count_bytes(ssize_t bytes)
 {
     if (counting && bytes > 0)
         counting->bytes += (uint64_t)bytes;
@@ -52,7 +52,7 @@ ssize_t pwrite(int file, const void *bytes, size_t length, off_t at)
     static ssize_t (*real)(int, const void *, size_t, off_t);
     real = real ? real : REAL("pwrite", ssize_t (*)(int, const void *, size_t, off_t));
     ssize_t some = real(file, bytes, length, at);
-    count(some);
+    count_bytes(some);
     return some;
 }
 
@@ -66,7 +66,7 @@ ssize_t write(int file, const void *bytes, size_t length)
     static ssize_t (*real)(int, const void *, size_t);
     real = real ? real : REAL("write", ssize_t (*)(int, const void *, size_t));
     ssize_t some = real(file, bytes, length);
-    count(some);
+    count_bytes(some);
     return some;
 }
 

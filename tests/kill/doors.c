@@ -151,6 +151,23 @@ static uint32_t record_sum(struct copy journal, const uint8_t *record)
     return (uint32_t)state;
 }
 
+/* The example of docs/FILESTORE.md. */
+static void test_example(void)
+{
+    topic = "the example of a checksum";
+    uint8_t bytes[64] = {0}, record[24] = {0};
+    for (uint8_t i = 0; i < 16; i++)
+        bytes[8 + i] = i;
+    bytes[24] = 5;
+    for (uint8_t i = 0; i < 8; i++)
+        bytes[32 + i] = (uint8_t)(0x88 - 0x11 * i);
+    record[8] = 1;
+    record[20] = 3;
+    uint8_t slots[4096 + 64] = {0};
+    memcpy(slots + 4096, bytes, sizeof bytes);
+    CHECK(record_sum((struct copy){slots, sizeof slots}, record) == 0xc41af3b4);
+}
+
 static void test_format(void)
 {
     topic = "the bytes of both files";
@@ -220,6 +237,7 @@ static void test_names(const char *folder)
     clear_store(path);
     write_text(beside(path), 100);
     CHECK(!filestore_create(&f, path, story_sizes, NULL) && f.refused == FILESTORE_THERE);
+    CHECK(refused(FILESTORE_NOT_THERE)); /* a stray journal beside a name that is none */
     CHECK(access(path, F_OK) != 0);
     clear_store(path);
     write_text(draft, 50000); /* as a creation that was cut short leaves it */
@@ -454,6 +472,37 @@ static void test_pieces(void)
     CHECK(truncate(path, (off_t)file.length - 1) == 0 && refused(FILESTORE_DAMAGED));
     put_copy(path, file);
     CHECK(holds_both());
+    free(journal.bytes);
+    free(file.bytes);
+}
+
+/* Each read of an opening is interrupted or cut short, and nobody sees it; or it fails, and the store is refused. */
+static void test_reads(void)
+{
+    topic = "reads";
+    make(path);
+    struct copy journal = copy_of(beside(path)), file = copy_of(path);
+    shim = (struct shim){0};
+    CHECK(holds_both());
+    unsigned long reads = shim.reads;
+    CHECK(reads > 6);
+    for (unsigned long i = 1; i <= reads; i++) {
+        put_copy(path, file);
+        put_copy(beside(path), journal);
+        shim = (struct shim){.read_at = i, .deed = SHIM_INTERRUPT};
+        CHECK(holds_both());
+        put_copy(path, file);
+        put_copy(beside(path), journal);
+        shim = (struct shim){.read_at = i, .deed = SHIM_SHORT};
+        CHECK(holds_both());
+        put_copy(path, file);
+        put_copy(beside(path), journal);
+        shim = (struct shim){.read_at = i, .deed = SHIM_FAIL};
+        CHECK(!opens());
+        filestore_drop(&f);
+        shim = (struct shim){0};
+        CHECK(holds_both());
+    }
     free(journal.bytes);
     free(file.bytes);
 }
@@ -728,12 +777,14 @@ bool doors(const char *store)
     snprintf(said, sizeof said, "%s/said", folder);
     if (!freopen(said, "w", stderr))
         return false;
+    test_example();
     test_format();
     test_names(folder);
     test_sizes();
     test_locks();
     test_journals(folder);
     test_pieces();
+    test_reads();
     test_flips();
     test_scrub();
     test_view();

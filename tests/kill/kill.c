@@ -105,7 +105,7 @@ static void child(int pipe)
         uint32_t t = 1 + (uint32_t)shim_chance(AT_ONCE);
         struct message *m = &open_ones[t];
         uint64_t dice = shim_chance(20);
-        ventarico_reply r = {0};
+        ventarico_reply r;
         if (dice == 0) {
             tend(&f);
         } else if (!live[t]) {
@@ -115,7 +115,8 @@ static void child(int pipe)
             live[t] = true;
             m->count = 0;
         } else if (dice < 13 && m->count < MOST) {
-            struct record c = {(uint32_t)shim_chance(PAGES), 0, 1u << shim_chance(4), (uint32_t)shim_chance(2), shim_chance(UINT64_MAX)};
+            struct record c = {(uint32_t)shim_chance(PAGES), 0, 1u << shim_chance(4), (uint32_t)shim_chance(2),
+                shim_chance(UINT64_MAX)};
             c.offset = 8 * (uint32_t)shim_chance(12) + (uint32_t)shim_chance(9); /* few places, so that they meet */
             if (c.length < 8)
                 c.value &= (UINT64_C(1) << 8 * c.length) - 1;

@@ -19,12 +19,14 @@ int __real_fdatasync(int file);
 int __real_ftruncate(int file, off_t length);
 int __real_rename(const char *from, const char *to);
 ssize_t __real_pwrite(int file, const void *bytes, size_t length, off_t at);
+ssize_t __real_pread(int file, void *bytes, size_t length, off_t at);
 int __wrap_open(const char *path, int flags, ...);
 int __wrap_fsync(int file);
 int __wrap_fdatasync(int file);
 int __wrap_ftruncate(int file, off_t length);
 int __wrap_rename(const char *from, const char *to);
 ssize_t __wrap_pwrite(int file, const void *bytes, size_t length, off_t at);
+ssize_t __wrap_pread(int file, void *bytes, size_t length, off_t at);
 
 struct shim shim;
 
@@ -138,7 +140,7 @@ static void remember(int file, enum what what, size_t at, size_t length)
         return;
     if (disk->used + (end - at) > ROOM)
         stop("too many bytes for the shim");
-    if (pread(file, disk->room + c->old, end - at, (off_t)at) != (ssize_t)(end - at))
+    if (__real_pread(file, disk->room + c->old, end - at, (off_t)at) != (ssize_t)(end - at))
         stop("pread");
     disk->used += end - at;
 }
@@ -273,7 +275,7 @@ static bool is_same(int file, const uint8_t *bytes, size_t length, off_t at)
     uint8_t *there = malloc(length + 1);
     if (!there)
         stop("malloc");
-    bool same = pread(file, there, length, at) == (ssize_t)length && memcmp(there, bytes, length) == 0;
+    bool same = __real_pread(file, there, length, at) == (ssize_t)length && memcmp(there, bytes, length) == 0;
     free(there);
     return same;
 }
@@ -333,6 +335,14 @@ ssize_t __wrap_pwrite(int file, const void *bytes, size_t length, off_t at)
     ssize_t some = __real_pwrite(file, bytes, length, at);
     done();
     return some;
+}
+
+ssize_t __wrap_pread(int file, void *bytes, size_t length, off_t at)
+{
+    bool due = ++shim.reads == shim.read_at;
+    if (due && fails())
+        return -1;
+    return __real_pread(file, bytes, due && shim.deed == SHIM_SHORT ? (length + 1) / 2 : length, at);
 }
 
 int __wrap_ftruncate(int file, off_t length)

@@ -31,6 +31,7 @@ struct shim {
     unsigned long zeros;      /* how often a write has answered 0 */
     bool real_syncs;          /* syncs are made, and nothing is noted: for a process that is killed at any moment, which
                                * could be while a note is made. Else a sync is noted and not made: so a test is quick */
+    unsigned long reads, read_at; /* reads are counted apart; the one that fails, is cut short or interrupted */
     void (*after)(void);      /* called behind each call that was done */
     unsigned long writes, syncs, bytes;
 };

@@ -6,7 +6,7 @@ ghost use Prim.Native.Nat.{_+_, _*_, _-_, _%_, _^_, _≤_};
 ghost use lib.ListN.{length};
 ghost use lib.Dec.{eqb, leb};
 ghost use Rattle.record.specs.Rows.{rowAt, rows, keep};
-ghost use Rattle.record.specs.Record.{change, apply, applied, chosen};
+ghost use Rattle.record.specs.Record.{onlineWidth, logWidth, change, apply, applied, chosen};
 use number::PageNo;
 
 // A page of n bytes has room for a change of w bytes at an offset, and a number has so many bytes.
@@ -46,7 +46,7 @@ pub fn write_change(g: &mut [u8], offset: usize, w: usize, kind: u8, v: u64)
 
 // The page g with the record of row i applied; rows have w bytes.
 pub fn apply_row(t: &[u8], w: usize, i: usize, g: &mut [u8])
-    requires { ⌜ (14 ≤ w) × (i * w + w ≤ length (now t)) ⌝ }
+    requires { ⌜ (logWidth ≤ w) × (i * w + w ≤ length (now t)) ⌝ }
     ensures { λ r. ⌜ now (g .exit) ≡ apply (rowAt w (now (t .entry)) i) (now (g .entry)) ⌝ }
 {
     let offset = record::offset_of(t, w, i);
@@ -58,10 +58,10 @@ pub fn apply_row(t: &[u8], w: usize, i: usize, g: &mut [u8])
 
 // Online row i is of the page p and, where only committed ones count, it is committed.
 fn is_chosen(t: &[u8], i: usize, p: PageNo, only: bool) -> bool
-    requires { ⌜ i * 19 + 19 ≤ length (now t) ⌝ }
-    ensures { λ r. ⌜ r ≡ chosen only (p .0) (rowAt 19 (now (t .entry)) i) ⌝ }
+    requires { ⌜ i * onlineWidth + onlineWidth ≤ length (now t) ⌝ }
+    ensures { λ r. ⌜ r ≡ chosen only (p .0) (rowAt onlineWidth (now (t .entry)) i) ⌝ }
 {
-    let q = record::page_of(t, 19, i);
+    let q = record::page_of(t, record::ONLINE_WIDTH, i);
     if q.0 != p.0 {
         return false;
     }
@@ -73,19 +73,19 @@ fn is_chosen(t: &[u8], i: usize, p: PageNo, only: bool) -> bool
 
 // The page g with online row i applied if it is chosen.
 fn fold_one(t: &[u8], i: usize, p: PageNo, only: bool, g: &mut [u8])
-    requires { ⌜ i * 19 + 19 ≤ length (now t) ⌝ }
-    ensures { λ r. ⌜ now (g .exit) ≡ cond (chosen only (p .0) (rowAt 19 (now (t .entry)) i)) (apply (rowAt 19 (now (t .entry)) i) (now (g .entry))) (now (g .entry)) ⌝ }
+    requires { ⌜ i * onlineWidth + onlineWidth ≤ length (now t) ⌝ }
+    ensures { λ r. ⌜ now (g .exit) ≡ cond (chosen only (p .0) (rowAt onlineWidth (now (t .entry)) i)) (apply (rowAt onlineWidth (now (t .entry)) i) (now (g .entry))) (now (g .entry)) ⌝ }
 {
     if !is_chosen(t, i, p, only) {
         return;
     }
-    apply_row(t, 19, i, g);
+    apply_row(t, record::ONLINE_WIDTH, i, g);
 }
 
 // The page g with the chosen ones of the online rows from `from` up to m applied in table order.
 pub fn fold(t: &[u8], from: usize, m: usize, p: PageNo, only: bool, g: &mut [u8])
-    requires { ⌜ m * 19 ≤ length (now t) ⌝ }
-    ensures { λ r. ⌜ now (g .exit) ≡ applied (keep (chosen only (p .0)) (rows 19 (m - from) (now (t .entry)) from)) (now (g .entry)) ⌝ }
+    requires { ⌜ m * onlineWidth ≤ length (now t) ⌝ }
+    ensures { λ r. ⌜ now (g .exit) ≡ applied (keep (chosen only (p .0)) (rows onlineWidth (m - from) (now (t .entry)) from)) (now (g .entry)) ⌝ }
 {
     let mut i = from;
     while i < m {

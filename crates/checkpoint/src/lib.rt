@@ -5,7 +5,7 @@ ghost use mathlib.Core.Bool.{cond};
 ghost use Prim.Native.Nat.{_+_, _*_, _≤_, _<_};
 ghost use lib.ListN.{length, set};
 ghost use Rattle.record.specs.Rows.{rowAt, rows, keep};
-ghost use Rattle.record.specs.Record.{pageOf, committed};
+ghost use Rattle.record.specs.Record.{onlineWidth, pageOf, committed};
 ghost use Rattle.rules.specs.Lent.{pagesOf, lastOf, loggedOf};
 ghost use Rattle.rules.specs.Areas.{areas, before, after};
 ghost use Rattle.rules.specs.Shape.{Shaped};
@@ -18,13 +18,13 @@ use number::PageNo;
 
 // A mark at row i's page, if the row is committed. A page past the marks has none.
 fn mark_row(seen: &mut [u8], online: &[u8], i: usize)
-    requires { ⌜ i * 19 + 19 ≤ length (now online) ⌝ }
-    ensures { λ r. ⌜ now (seen .exit) ≡ cond (committed (rowAt 19 (now (online .entry)) i)) (set (now (seen .entry)) (pageOf (rowAt 19 (now (online .entry)) i)) 1) (now (seen .entry)) ⌝ }
+    requires { ⌜ i * onlineWidth + onlineWidth ≤ length (now online) ⌝ }
+    ensures { λ r. ⌜ now (seen .exit) ≡ cond (committed (rowAt onlineWidth (now (online .entry)) i)) (set (now (seen .entry)) (pageOf (rowAt onlineWidth (now (online .entry)) i)) 1) (now (seen .entry)) ⌝ }
 {
     if record::owner_of(online, i) != 0 {
         return;
     }
-    let p = record::page_of(online, 19, i).0;
+    let p = record::page_of(online, record::ONLINE_WIDTH, i).0;
     if seen.len() <= p {
         return;
     }
@@ -33,8 +33,8 @@ fn mark_row(seen: &mut [u8], online: &[u8], i: usize)
 
 // A mark at the page of each committed row.
 fn mark_committed(seen: &mut [u8], online: &[u8], m: usize)
-    requires { ⌜ m * 19 ≤ length (now online) ⌝ }
-    ensures { λ r. ⌜ now (seen .exit) ≡ markPages (keep committed (rows 19 m (now (online .entry)) 0)) (now (seen .entry)) ⌝ }
+    requires { ⌜ m * onlineWidth ≤ length (now online) ⌝ }
+    ensures { λ r. ⌜ now (seen .exit) ≡ markPages (keep committed (rows onlineWidth m (now (online .entry)) 0)) (now (seen .entry)) ⌝ }
 {
     let mut i = 0;
     while i < m {
@@ -99,7 +99,7 @@ fn compact_all(
     requires { ⌜ Shaped (areas fixed marks log stored tables online pool) × (loggedOf (areas fixed marks log stored tables online pool) ≤ lastOf (areas fixed marks log stored tables online pool)) × Noted (now seen) (areas fixed marks log stored tables online pool) ⌝ }
     ensures { λ r. ⌜ Halfway «min_del» «max_age» (before fixed marks log stored tables online pool) (after fixed marks log stored tables online pool) (r .reads) (r .writes) (pagesOf (before fixed marks log stored tables online pool)) ⌝ }
 {
-    let pages = word::load(fixed, 4, 4) as usize;
+    let pages = word::load(fixed, layout::PAGES_AT, 4) as usize;
     let mut reads: u32 = 0;
     let mut writes: u32 = 0;
     let mut j = 0;
@@ -142,7 +142,7 @@ pub fn checkpoint(
     ensures writes { λ r. ⌜ r .writes ≡ checkpointed «min_del» «max_age» (before fixed marks log stored tables online pool) .writes ⌝ }
     ensures lent { λ r. ⌜ after fixed marks log stored tables online pool ≡ checkpointed «min_del» «max_age» (before fixed marks log stored tables online pool) .lent ⌝ }
 {
-    let m = word::load(tables, 0, 2) as usize;
+    let m = word::load(tables, layout::COUNT_AT, 2) as usize;
     let mut seen = [0u8; 1024];
     mark_committed(&mut seen, online, m);
     let d = compact_all(

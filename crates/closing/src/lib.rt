@@ -7,8 +7,8 @@ ghost use lib.Dec.{eqb};
 ghost use Rattle.word.specs.Word.{num, put};
 ghost use Rattle.record.specs.Part.{withPart};
 ghost use Rattle.record.specs.Rows.{rows, table, keep};
-ghost use Rattle.record.specs.Record.{committed, lesser, smallest};
-ghost use Rattle.rules.specs.Lent.{lastOf, loggedOf, dirtyAt};
+ghost use Rattle.record.specs.Record.{onlineWidth, logWidth, committed, lesser, smallest};
+ghost use Rattle.rules.specs.Lent.{fixedLength, marksLength, stampsAt, closedAt, loggedAt, lastIn, loggedIn, pagesIn, logSizeIn, lastOf, loggedOf, dirtyAt};
 ghost use Rattle.rules.specs.Areas.{areas, before, after};
 ghost use Rattle.rules.specs.Shape.{Shaped};
 ghost use Rattle.rules.specs.Steps.{lowered, closed};
@@ -30,22 +30,22 @@ fn lesser_of(a: u64, b: u64) -> u64
 
 // The dirty number of page p lowered to k; a page past the last has none.
 fn lower(marks: &mut [u8], pages: usize, p: PageNo, k: LogNo)
-    requires { ⌜ length (now marks) ≡ 12 + 8 * pages ⌝ }
+    requires { ⌜ length (now marks) ≡ marksLength pages ⌝ }
     ensures { λ r. ⌜ now (marks .exit) ≡ put 4 (now (marks .entry)) (dirtyAt pages (p .0)) (lesser (num 4 (now (marks .entry)) (dirtyAt pages (p .0))) (k .0)) ⌝ }
 {
     let q = p.0;
     if pages <= q {
         return;
     }
-    let at = 12 + 4 * pages + 4 * q;
+    let at = layout::STAMPS_AT + 4 * pages + 4 * q;
     let old = word::load(marks, at, 4);
     word::store(marks, at, 4, lesser_of(old, k.0));
 }
 
 // Online row i lowers its page's dirty number if it is committed.
 fn lower_row(marks: &mut [u8], pages: usize, online: &[u8], i: usize)
-    requires { ⌜ (length (now marks) ≡ 12 + 8 * pages) × (i * 19 + 19 ≤ length (now online)) ⌝ }
-    ensures { λ r. ⌜ now (marks .exit) ≡ lowered pages (rows 19 1 (now (online .entry)) i) (now (marks .entry)) ⌝ }
+    requires { ⌜ (length (now marks) ≡ marksLength pages) × (i * onlineWidth + onlineWidth ≤ length (now online)) ⌝ }
+    ensures { λ r. ⌜ now (marks .exit) ≡ lowered pages (rows onlineWidth 1 (now (online .entry)) i) (now (marks .entry)) ⌝ }
 {
     if record::owner_of(online, i) != 0 {
         return;
@@ -53,15 +53,15 @@ fn lower_row(marks: &mut [u8], pages: usize, online: &[u8], i: usize)
     lower(
         marks,
         pages,
-        record::page_of(online, 19, i),
+        record::page_of(online, record::ONLINE_WIDTH, i),
         record::number_of(online, i),
     );
 }
 
 // Each of the first m online rows in turn.
 fn lower_all(marks: &mut [u8], pages: usize, online: &[u8], m: usize)
-    requires { ⌜ (length (now marks) ≡ 12 + 8 * pages) × (m * 19 ≤ length (now online)) ⌝ }
-    ensures { λ r. ⌜ now (marks .exit) ≡ lowered pages (rows 19 m (now (online .entry)) 0) (now (marks .entry)) ⌝ }
+    requires { ⌜ (length (now marks) ≡ marksLength pages) × (m * onlineWidth ≤ length (now online)) ⌝ }
+    ensures { λ r. ⌜ now (marks .exit) ≡ lowered pages (rows onlineWidth m (now (online .entry)) 0) (now (marks .entry)) ⌝ }
 {
     let mut i = 0;
     while i < m {
@@ -72,8 +72,8 @@ fn lower_all(marks: &mut [u8], pages: usize, online: &[u8], m: usize)
 
 // The smallest number so far, once online row i is seen.
 fn smaller(online: &[u8], i: usize, a: u64) -> u64
-    requires { ⌜ i * 19 + 19 ≤ length (now online) ⌝ }
-    ensures { λ r. ⌜ r ≡ smallest a (keep committed (rows 19 1 (now (online .entry)) i)) ⌝ }
+    requires { ⌜ i * onlineWidth + onlineWidth ≤ length (now online) ⌝ }
+    ensures { λ r. ⌜ r ≡ smallest a (keep committed (rows onlineWidth 1 (now (online .entry)) i)) ⌝ }
 {
     if record::owner_of(online, i) != 0 {
         return a;
@@ -84,8 +84,8 @@ fn smaller(online: &[u8], i: usize, a: u64) -> u64
 
 // The smallest committed online number, 0 if there is none.
 fn smallest_committed(online: &[u8], m: usize) -> u64
-    requires { ⌜ m * 19 ≤ length (now online) ⌝ }
-    ensures { λ r. ⌜ r ≡ smallest 0 (keep committed (rows 19 m (now (online .entry)) 0)) ⌝ }
+    requires { ⌜ m * onlineWidth ≤ length (now online) ⌝ }
+    ensures { λ r. ⌜ r ≡ smallest 0 (keep committed (rows onlineWidth m (now (online .entry)) 0)) ⌝ }
 {
     let mut a: u64 = 0;
     let mut i = 0;
@@ -96,31 +96,20 @@ fn smallest_committed(online: &[u8], m: usize) -> u64
     a
 }
 
-// Zeros, all of it.
-fn wipe(s: &mut [u8])
-    ensures { λ r. ⌜ now (s .exit) ≡ replicate (length (now (s .entry))) 0 ⌝ }
-{
-    let mut i = 0;
-    while i < s.len() {
-        s[i] = 0;
-        i += 1;
-    }
-}
-
 // No page has a dirty number.
 fn clear_dirty(marks: &mut [u8], pages: usize)
-    requires { ⌜ length (now marks) ≡ 12 + 8 * pages ⌝ }
+    requires { ⌜ length (now marks) ≡ marksLength pages ⌝ }
     ensures { λ r. ⌜ now (marks .exit) ≡ withPart (dirtyAt pages 0) (4 * pages) (now (marks .entry)) (replicate (4 * pages) 0) ⌝ }
 {
-    let a = 12 + 4 * pages;
+    let a = layout::STAMPS_AT + 4 * pages;
     let e = a + 4 * pages;
-    wipe(&mut marks[a..e]);
+    fill::wipe(&mut marks[a..e]);
 }
 
 // The dirty numbers made anew from the first m online rows.
 fn lower_anew(marks: &mut [u8], pages: usize, online: &[u8], m: usize)
-    requires { ⌜ (length (now marks) ≡ 12 + 8 * pages) × (m * 19 ≤ length (now online)) ⌝ }
-    ensures { λ r. ⌜ now (marks .exit) ≡ lowered pages (rows 19 m (now (online .entry)) 0) (withPart (dirtyAt pages 0) (4 * pages) (now (marks .entry)) (replicate (4 * pages) 0)) ⌝ }
+    requires { ⌜ (length (now marks) ≡ marksLength pages) × (m * onlineWidth ≤ length (now online)) ⌝ }
+    ensures { λ r. ⌜ now (marks .exit) ≡ lowered pages (rows onlineWidth m (now (online .entry)) 0) (withPart (dirtyAt pages 0) (4 * pages) (now (marks .entry)) (replicate (4 * pages) 0)) ⌝ }
 {
     clear_dirty(marks, pages);
     lower_all(marks, pages, online, m);
@@ -128,15 +117,15 @@ fn lower_anew(marks: &mut [u8], pages: usize, online: &[u8], m: usize)
 
 // The dirty numbers made anew, K as L, and n less by d.
 fn close_marks(fixed: &[u8], marks: &mut [u8], online: &[u8], m: usize, d: u64)
-    requires { ⌜ (length (now fixed) ≡ 20) × (length (now marks) ≡ 12 + 8 * num 4 (now fixed) 4) × (m * 19 ≤ length (now online)) × (d ≤ num 4 (now marks) 8) ⌝ }
-    ensures { λ r. ⌜ now (marks .exit) ≡ put 4 (put 4 (lowered (num 4 (now (fixed .entry)) 4) (rows 19 m (now (online .entry)) 0) (withPart (dirtyAt (num 4 (now (fixed .entry)) 4) 0) (4 * num 4 (now (fixed .entry)) 4) (now (marks .entry)) (replicate (4 * num 4 (now (fixed .entry)) 4) 0))) 4 (num 4 (now (marks .entry)) 0)) 8 (num 4 (now (marks .entry)) 8 - d) ⌝ }
+    requires { ⌜ (length (now fixed) ≡ fixedLength) × (length (now marks) ≡ marksLength (pagesIn (now fixed))) × (m * onlineWidth ≤ length (now online)) × (d ≤ loggedIn (now marks)) ⌝ }
+    ensures { λ r. ⌜ now (marks .exit) ≡ put 4 (put 4 (lowered (pagesIn (now (fixed .entry))) (rows onlineWidth m (now (online .entry)) 0) (withPart (dirtyAt (pagesIn (now (fixed .entry))) 0) (4 * pagesIn (now (fixed .entry))) (now (marks .entry)) (replicate (4 * pagesIn (now (fixed .entry))) 0))) closedAt (lastIn (now (marks .entry)))) loggedAt (loggedIn (now (marks .entry)) - d) ⌝ }
 {
-    let pages = word::load(fixed, 4, 4) as usize;
-    let last = word::load(marks, 0, 4);
-    let n = word::load(marks, 8, 4);
+    let pages = word::load(fixed, layout::PAGES_AT, 4) as usize;
+    let last = word::load(marks, layout::LAST_AT, 4);
+    let n = word::load(marks, layout::LOGGED_AT, 4);
     lower_anew(marks, pages, online, m);
-    word::store(marks, 4, 4, last);
-    word::store(marks, 8, 4, n - d);
+    word::store(marks, layout::CLOSED_AT, 4, last);
+    word::store(marks, layout::LOGGED_AT, 4, n - d);
 }
 
 // Of n log records up to the number `last`, those below the number x, all if x is 0, and never more than there are.
@@ -159,21 +148,21 @@ fn below(n: u64, last: u64, x: u64) -> u64
 
 // How many log records are dropped where the smallest dirty number is x.
 fn dropped(marks: &[u8], x: u64) -> u64
-    requires { ⌜ (12 ≤ length (now marks)) × (num 4 (now marks) 8 ≤ num 4 (now marks) 0) ⌝ }
-    ensures { λ r. ⌜ r ≡ min (num 4 (now (marks .entry)) 8) (cond (eqb x 0) (num 4 (now (marks .entry)) 8) (x - (num 4 (now (marks .entry)) 0 - num 4 (now (marks .entry)) 8 + 1))) ⌝ }
+    requires { ⌜ (stampsAt ≤ length (now marks)) × (loggedIn (now marks) ≤ lastIn (now marks)) ⌝ }
+    ensures { λ r. ⌜ r ≡ min (loggedIn (now (marks .entry))) (cond (eqb x 0) (loggedIn (now (marks .entry))) (x - (lastIn (now (marks .entry)) - loggedIn (now (marks .entry)) + 1))) ⌝ }
 {
-    let last = word::load(marks, 0, 4);
-    let n = word::load(marks, 8, 4);
+    let last = word::load(marks, layout::LAST_AT, 4);
+    let n = word::load(marks, layout::LOGGED_AT, 4);
     below(n, last, x)
 }
 
 // The first d log records dropped.
 fn close_log(fixed: &[u8], marks: &[u8], log: &mut [u8], d: u64)
-    requires { ⌜ (length (now fixed) ≡ 20) × (12 ≤ length (now marks)) × (length (now log) ≡ 14 * num 4 (now fixed) 16) × (num 4 (now marks) 8 ≤ num 4 (now fixed) 16) × (d ≤ num 4 (now marks) 8) ⌝ }
-    ensures { λ r. ⌜ now (log .exit) ≡ table 14 (num 4 (now (fixed .entry)) 16) (drop d (rows 14 (num 4 (now (marks .entry)) 8) (now (log .entry)) 0)) ⌝ }
+    requires { ⌜ (length (now fixed) ≡ fixedLength) × (stampsAt ≤ length (now marks)) × (length (now log) ≡ logWidth * logSizeIn (now fixed)) × (loggedIn (now marks) ≤ logSizeIn (now fixed)) × (d ≤ loggedIn (now marks)) ⌝ }
+    ensures { λ r. ⌜ now (log .exit) ≡ table logWidth (logSizeIn (now (fixed .entry))) (drop d (rows logWidth (loggedIn (now (marks .entry))) (now (log .entry)) 0)) ⌝ }
 {
-    let span = word::load(fixed, 16, 4) as usize;
-    let n = word::load(marks, 8, 4) as usize;
+    let span = word::load(fixed, layout::LOG_SIZE_AT, 4) as usize;
+    let n = word::load(marks, layout::LOGGED_AT, 4) as usize;
     table::shift(log, n, span, d as usize);
 }
 
@@ -190,7 +179,7 @@ pub fn close(
     requires { ⌜ Shaped (areas fixed marks log stored tables online pool) × (loggedOf (areas fixed marks log stored tables online pool) ≤ lastOf (areas fixed marks log stored tables online pool)) ⌝ }
     ensures { λ r. ⌜ after fixed marks log stored tables online pool ≡ closed (before fixed marks log stored tables online pool) .lent ⌝ }
 {
-    let m = word::load(tables, 0, 2) as usize;
+    let m = word::load(tables, layout::COUNT_AT, 2) as usize;
     let x = smallest_committed(online, m);
     let d = dropped(marks, x);
     close_log(fixed, marks, log, d);

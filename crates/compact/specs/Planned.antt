@@ -4,16 +4,15 @@ use mathlib.Core.Path.{_≡_}
 use mathlib.Core.Bool.{cond, not, _&&_}
 use mathlib.Core.List.{List}
 use lib.Dec.{eqb}
-use Rattle.word.specs.Word.{num}
-use Rattle.rules.specs.Lent.{inFrame, frameOf, cleanIn}
+use Rattle.rules.specs.Lent.{countIn, sizeIn, framesIn, onlineSizeIn, inFrame, frameOf, cleanIn}
 use Rattle.compact.specs.declared.Plan.{Plan}
 use Rattle.compact.specs.declared.Sizes.{Sizes}
 
 pub record Measured (fixed tables : List ℕ) (r : Sizes) : Type 0 where
-  pub size : r .size ≡ num 4 fixed 0
-  pub frames : r .frames ≡ num 4 fixed 8
-  pub room : r .room ≡ num 4 fixed 12
-  pub count : r .count ≡ num 2 tables 0
+  pub size : r .size ≡ sizeIn fixed
+  pub frames : r .frames ≡ framesIn fixed
+  pub room : r .room ≡ onlineSizeIn fixed
+  pub count : r .count ≡ countIn tables
 
 -- the plan for a page with so many committed records of so many in all, with this entry and the greatest committed number
 pub record Planned (n all e most : ℕ) (r : Plan) : Type 0 where

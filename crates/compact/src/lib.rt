@@ -8,12 +8,12 @@ ghost use lib.ListN.{length, getD, set};
 ghost use lib.Dec.{eqb, leb};
 ghost use Rattle.record.specs.Part.{part};
 ghost use Rattle.record.specs.Rows.{rows, keep, table};
-ghost use Rattle.record.specs.Record.{onPage, committedOn, applied, gone, greatest};
+ghost use Rattle.record.specs.Record.{onlineWidth, onPage, committedOn, applied, gone, greatest};
 ghost use Rattle.order.specs.Order.{without};
 ghost use Rattle.order.specs.Meant.{listOf};
 ghost use Rattle.table.specs.Before.{NoneBefore, NoneFrom};
 ghost use Rattle.table.specs.Seen.{Surveyed};
-ghost use Rattle.rules.specs.Lent.{pagesOf, countOf, pageIn, withPage, withOrder, withCount, entryAt};
+ghost use Rattle.rules.specs.Lent.{orderAt, fixedLength, usedIn, pagesOf, countOf, pageIn, withPage, withOrder, withCount, entryAt};
 ghost use Rattle.rules.specs.Areas.{areas, before, after};
 ghost use Rattle.rules.specs.Shape.{Shaped};
 ghost use Rattle.rules.specs.Steps.{compacted, compactStep};
@@ -66,13 +66,13 @@ fn due_by(n: u64, age: u64, min_del: u64, max_age: u64) -> bool
 }
 
 fn measure(fixed: &[u8], tables: &[u8]) -> Sizes
-    requires { ⌜ (length (now fixed) ≡ 20) × (2 ≤ length (now tables)) ⌝ }
+    requires { ⌜ (length (now fixed) ≡ fixedLength) × (2 ≤ length (now tables)) ⌝ }
     ensures { λ r. ⌜ Measured (now (fixed .entry)) (now (tables .entry)) r ⌝ }
 {
-    let size = word::load(fixed, 0, 4) as usize;
-    let frames = word::load(fixed, 8, 4) as usize;
-    let room = word::load(fixed, 12, 4) as usize;
-    let count = word::load(tables, 0, 2) as usize;
+    let size = word::load(fixed, layout::SIZE_AT, 4) as usize;
+    let frames = word::load(fixed, layout::FRAMES_AT, 4) as usize;
+    let room = word::load(fixed, layout::ONLINE_SIZE_AT, 4) as usize;
+    let count = word::load(tables, layout::COUNT_AT, 2) as usize;
     Sizes {
         size,
         frames,
@@ -130,7 +130,7 @@ fn plan_for(tables: &[u8], z: Sizes, p: PageNo, s: Survey) -> Plan
     requires { ⌜ entryAt (z .frames) (p .0) < length (now tables) ⌝ }
     ensures { λ r. ⌜ Planned (s .committed) (s .all) (getD (now (tables .entry)) (entryAt (z .frames) (p .0)) 0) (s .most) r ⌝ }
 {
-    let at = 35 + z.frames + p.0;
+    let at = layout::ORDER_AT + z.frames + p.0;
     plan_by(s, tables[at])
 }
 
@@ -146,15 +146,15 @@ fn write_page(
     framed: bool,
     frame: usize,
 )
-    requires { ⌜ (p .0 * size + size ≤ length (now stored)) × (frame * size + size ≤ length (now pool)) × (to * 19 ≤ length (now online)) ⌝ }
-    ensures { λ r. ⌜ now (stored .exit) ≡ withPage size (p .0) (now (stored .entry)) (cond framed (pageIn size frame (now (pool .entry))) (applied (keep (committedOn (p .0)) (rows 19 (to - from) (now (online .entry)) from)) (pageIn size (p .0) (now (stored .entry))))) ⌝ }
+    requires { ⌜ (p .0 * size + size ≤ length (now stored)) × (frame * size + size ≤ length (now pool)) × (to * onlineWidth ≤ length (now online)) ⌝ }
+    ensures { λ r. ⌜ now (stored .exit) ≡ withPage size (p .0) (now (stored .entry)) (cond framed (pageIn size frame (now (pool .entry))) (applied (keep (committedOn (p .0)) (rows onlineWidth (to - from) (now (online .entry)) from)) (pageIn size (p .0) (now (stored .entry))))) ⌝ }
 {
     let a = p.0 * size;
     let e = a + size;
     if framed {
         let b = frame * size;
         let d = b + size;
-        frames::copy(&mut stored[a..e], &pool[b..d]);
+        fill::copy(&mut stored[a..e], &pool[b..d]);
         return;
     }
     apply::fold(online, from, to, p, true, &mut stored[a..e]);
@@ -173,11 +173,11 @@ fn freed_order(order: Order, frees: bool, frame: usize) -> Order
 
 // The entry of page p, and the use order.
 fn write_entry(tables: &mut [u8], frames: usize, p: PageNo, entry: u8, frees: bool, frame: usize)
-    requires { ⌜ (entryAt frames (p .0) < length (now tables)) × (getD (now tables) 2 0 ≤ frames) × (frames ≤ 64) ⌝ }
-    ensures { λ r. ⌜ now (tables .exit) ≡ withOrder frames (cond frees (without frame (part 35 (getD (now (tables .entry)) 2 0) (now (tables .entry)))) (part 35 (getD (now (tables .entry)) 2 0) (now (tables .entry)))) (set (now (tables .entry)) (entryAt frames (p .0)) entry) ⌝ }
+    requires { ⌜ (entryAt frames (p .0) < length (now tables)) × (usedIn (now tables) ≤ frames) × (frames ≤ 64) ⌝ }
+    ensures { λ r. ⌜ now (tables .exit) ≡ withOrder frames (cond frees (without frame (part orderAt (usedIn (now (tables .entry))) (now (tables .entry)))) (part orderAt (usedIn (now (tables .entry))) (now (tables .entry)))) (set (now (tables .entry)) (entryAt frames (p .0)) entry) ⌝ }
 {
     let order = freed_order(frames::load_order(tables, frames), frees, frame);
-    let at = 35 + frames + p.0;
+    let at = layout::ORDER_AT + frames + p.0;
     tables[at] = entry;
     frames::save_order(tables, frames, order);
 }
@@ -192,11 +192,11 @@ fn delete_folded(
     room: usize,
     p: PageNo,
 )
-    requires { ⌜ (2 ≤ length (now tables)) × (length (now online) ≡ room * 19) × (m ≤ room) × (from ≤ to) × (to ≤ m) × NoneBefore (committedOn (p .0)) (now online) from × NoneFrom (committedOn (p .0)) (now online) to m ⌝ }
-    ensures { λ r. ⌜ (now (tables .exit) ≡ withCount (length (keep (λ (x : List ℕ). not (gone false 0 (p .0) x)) (rows 19 m (now (online .entry)) 0))) (now (tables .entry))) × (now (online .exit) ≡ table 19 room (keep (λ (x : List ℕ). not (gone false 0 (p .0) x)) (rows 19 m (now (online .entry)) 0))) ⌝ }
+    requires { ⌜ (2 ≤ length (now tables)) × (length (now online) ≡ room * onlineWidth) × (m ≤ room) × (from ≤ to) × (to ≤ m) × NoneBefore (committedOn (p .0)) (now online) from × NoneFrom (committedOn (p .0)) (now online) to m ⌝ }
+    ensures { λ r. ⌜ (now (tables .exit) ≡ withCount (length (keep (λ (x : List ℕ). not (gone false 0 (p .0) x)) (rows onlineWidth m (now (online .entry)) 0))) (now (tables .entry))) × (now (online .exit) ≡ table onlineWidth room (keep (λ (x : List ℕ). not (gone false 0 (p .0) x)) (rows onlineWidth m (now (online .entry)) 0))) ⌝ }
 {
     let k = table::delete(online, from, to, m, room, false, 0, p);
-    word::store(tables, 0, 2, k as u64);
+    word::store(tables, layout::COUNT_AT, 2, k as u64);
 }
 
 // The lost part of compact.
@@ -209,8 +209,8 @@ fn compact_lost(
     to: usize,
     plan: Plan,
 )
-    requires { ⌜ (entryAt (z .frames) (p .0) < length (now tables)) × (getD (now tables) 2 0 ≤ z .frames) × (z .frames ≤ 64) × (length (now online) ≡ z .room * 19) × (z .count ≤ z .room) × (from ≤ to) × (to ≤ z .count) × NoneBefore (committedOn (p .0)) (now online) from × NoneFrom (committedOn (p .0)) (now online) to (z .count) ⌝ }
-    ensures { λ r. ⌜ (now (tables .exit) ≡ withCount (length (keep (λ (x : List ℕ). not (gone false 0 (p .0) x)) (rows 19 (z .count) (now (online .entry)) 0))) (withOrder (z .frames) (cond (plan .frees) (without (plan .frame) (part 35 (getD (now (tables .entry)) 2 0) (now (tables .entry)))) (part 35 (getD (now (tables .entry)) 2 0) (now (tables .entry)))) (set (now (tables .entry)) (entryAt (z .frames) (p .0)) (plan .entry)))) × (now (online .exit) ≡ table 19 (z .room) (keep (λ (x : List ℕ). not (gone false 0 (p .0) x)) (rows 19 (z .count) (now (online .entry)) 0))) ⌝ }
+    requires { ⌜ (entryAt (z .frames) (p .0) < length (now tables)) × (usedIn (now tables) ≤ z .frames) × (z .frames ≤ 64) × (length (now online) ≡ z .room * onlineWidth) × (z .count ≤ z .room) × (from ≤ to) × (to ≤ z .count) × NoneBefore (committedOn (p .0)) (now online) from × NoneFrom (committedOn (p .0)) (now online) to (z .count) ⌝ }
+    ensures { λ r. ⌜ (now (tables .exit) ≡ withCount (length (keep (λ (x : List ℕ). not (gone false 0 (p .0) x)) (rows onlineWidth (z .count) (now (online .entry)) 0))) (withOrder (z .frames) (cond (plan .frees) (without (plan .frame) (part orderAt (usedIn (now (tables .entry))) (now (tables .entry)))) (part orderAt (usedIn (now (tables .entry))) (now (tables .entry)))) (set (now (tables .entry)) (entryAt (z .frames) (p .0)) (plan .entry)))) × (now (online .exit) ≡ table onlineWidth (z .room) (keep (λ (x : List ℕ). not (gone false 0 (p .0) x)) (rows onlineWidth (z .count) (now (online .entry)) 0))) ⌝ }
 {
     write_entry(tables, z.frames, p, plan.entry, plan.frees, plan.frame);
     delete_folded(tables, online, from, to, z.count, z.room, p);
@@ -247,7 +247,7 @@ fn compact_by(
         plan.frame,
     );
     compact_lost(tables, online, z, p, s.from, s.to, plan);
-    word::store(marks, 12 + 4 * p.0, 4, plan.stamp);
+    word::store(marks, layout::STAMPS_AT + 4 * p.0, 4, plan.stamp);
     Compacted {
         reads: plan.reads,
         writes: 1,
@@ -272,9 +272,9 @@ pub fn compact_step(
     ensures writes { λ r. ⌜ r .writes ≡ compactStep «min_del» «max_age» (before fixed marks log stored tables online pool) (p .0) .writes ⌝ }
     ensures lent { λ r. ⌜ after fixed marks log stored tables online pool ≡ compactStep «min_del» «max_age» (before fixed marks log stored tables online pool) (p .0) .lent ⌝ }
 {
-    let m = word::load(tables, 0, 2) as usize;
+    let m = word::load(tables, layout::COUNT_AT, 2) as usize;
     let s = table::survey(online, m, p);
-    let last = word::load(marks, 0, 4);
+    let last = word::load(marks, layout::LAST_AT, 4);
     if !due_by(s.committed as u64, age(last, s.least), min_del, max_age) {
         return Compacted {
             reads: 0,

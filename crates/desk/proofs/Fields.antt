@@ -3,21 +3,20 @@ use Prim.Native.Nat.{ℕ, zero, suc, _+_, _*_, _-_, _/_, _%_, _^_, _≤_, _<_}
 use native.Mathlib.Omega.{arith}
 use native.Mathlib.Nat.{div-div-eq-div-mul}
 use mathlib.Core.Path.{_≡_, refl, sym, ap, _∙_}
-use mathlib.Core.Bool.{Bool, true, false, cond, _&&_, _||_}
+use mathlib.Core.Bool.{Bool, true, false, _&&_, _||_}
 use mathlib.Core.List.{List, [], _∷_, _++_}
-use lib.ListN.{length, length-append}
-use lib.Dec.{eqb, leb}
+use lib.ListN.{length}
+use lib.Dec.{eqb}
 use borrow.Author.Tests.{le-leb, eq-eqb}
 use Rattle.word.specs.Word.{num}
 use Rattle.word.proofs.Tests.{and-in}
 use Rattle.wal.specs.declared.Sums.{Sums}
 use Rattle.wal.specs.declared.Header.{Header}
-use Rattle.wal.specs.declared.Opened.{Opened}
-use Rattle.wal.specs.declared.Opened.the-variants.{Good, BadHeader, BadSum}
-use Rattle.wal.specs.declared.Seen.the-variants.{Valid, Stop}
-use Rattle.wal.specs.Sum.{field, bytesOf, fieldsOf, wordAt, noSums, paired, summed}
-use Rattle.wal.specs.Layout.{magicOf, version, isPageSize, isHeader, headIn, holdsSums, opened, frameSize, frameSums, isValid, seen}
-use Rattle.wal.specs.Written.{headFields, headOf, sumFields, headBytes, imageSums, frameBytes}
+use Rattle.wal.specs.declared.Opened.the-variants.{Good}
+use Rattle.wal.specs.declared.Seen.the-variants.{Valid}
+use Rattle.wal.specs.Sum.{field, fieldsOf, wordAt, noSums, paired, summed}
+use Rattle.wal.specs.Layout.{magicOf, version, isPageSize, isHeader, headIn, holdsSums, opened, frameSums, isValid, seen}
+use Rattle.wal.specs.Written.{headFields, headOf, headBytes, imageSums, frameBytes}
 use Rattle.wal.proofs.Puts.{frame-summed}
 
 -- a number as a field's bytes, read back

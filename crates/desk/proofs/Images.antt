@@ -1,14 +1,14 @@
 -- Over every run that is up, a page's image is the starting page with all committed updates.
 use Prim.Native.Nat.{ℕ, _<_}
 use native.Mathlib.Omega.{arith}
-use mathlib.Core.Path.{_≡_, refl, sym, ap, _∙_, subst}
+use mathlib.Core.Path.{_≡_, sym, ap, _∙_, subst}
 use mathlib.Core.Bool.{Bool, true, false, not, _&&_, and-true, and-false}
-use mathlib.Core.List.{List, [], _∷_, _++_}
+use mathlib.Core.List.{List, [], _++_}
 use borrow.Author.Tests.{eqb-true}
 use Rattle.word.proofs.Tests.{and-both}
 use Rattle.record.specs.Rows.{keep}
 use Rattle.record.specs.Record.{pageOf, committed, applied, onPage, committedOn}
-use Rattle.rules.specs.Lent.{Lent, sizeOf, pagesOf, onlineOf, pageIn}
+use Rattle.rules.specs.Lent.{Lent, pagesOf, onlineOf, pageIn}
 use Rattle.rules.specs.Sound.{every}
 use Rattle.rules.proofs.Every.{every-keep}
 use Rattle.rules.proofs.Every.{every-imp}
@@ -16,7 +16,7 @@ use Rattle.redo.proofs.Order.{_≈_}
 use Rattle.redo.proofs.Loose.{≅-free}
 use Rattle.redo.proofs.Views.{keep-same-where, keep-none, stored-then-online}
 use Rattle.redo.proofs.Reader.{two-parts}
-use Rattle.history.specs.Past.{Past, startPage}
+use Rattle.history.specs.Past.{Past}
 use Rattle.history.specs.Run.{Run}
 use Rattle.history.proofs.Right.{Ground, Right, rowsOf, openOf, aboveStamp}
 use Rattle.history.proofs.Facts.{done-committed, done-rising, open-unset}

@@ -3,3 +3,5 @@ pub mod Images
 -- a log that was written: its header, its frames
 pub mod Fields
 pub mod Logs
+-- and the call: what the desk reads is what was committed
+pub mod Calls

@@ -2,30 +2,32 @@
 use Prim.Native.Nat.{ℕ, zero, suc, _+_, _*_, _-_, _^_, _≤_, _<_}
 use native.Mathlib.Omega.{arith}
 use native.Mathlib.Nat.{suc-mul}
-use mathlib.Core.Path.{_≡_, refl, sym, ap, _∙_, subst}
+use mathlib.Core.Path.{_≡_, refl, sym, ap, _∙_}
 use mathlib.Core.Bool.{Bool, true, false, cond, not, _&&_, _||_}
 use mathlib.Core.List.{List, [], _∷_, _++_, append-assoc, append-nil}
 use lib.ListN.{length, take, drop, length-append}
 use lib.Seq.{take-at, drop-at, drop-drop}
-use lib.Dec.{eqb, leb, ltb}
+use lib.Dec.{eqb, ltb}
 use borrow.Author.Tests.{ltb-true, lt-leb, eqb-true, eqb-false, eq-eqb, ne-eqb}
 use Rattle.word.proofs.Tests.{and-both}
 use Rattle.record.specs.Rows.{any}
 use Rattle.rules.specs.Sound.{every}
 use Rattle.wal.specs.declared.Sums.{Sums}
 use Rattle.wal.specs.declared.Header.{Header}
-use Rattle.wal.specs.declared.Opened.{Opened}
 use Rattle.wal.specs.declared.Opened.the-variants.{Good}
 use Rattle.wal.specs.declared.Seen.the-variants.{Valid}
 use Rattle.wal.specs.Sum.{fieldsOf}
 use Rattle.wal.specs.Layout.{Frame, isPageSize, opened, frameSize, isValid, seen, frameAt, framesFrom, validFrames}
-use Rattle.wal.specs.Written.{headFields, headOf, headBytes, imageSums, frameBytes, commitBefore, framesBytes, written}
+use Rattle.wal.specs.Written.{headOf, headBytes, imageSums, frameBytes, commitBefore, framesBytes, written}
 use Rattle.wal.proofs.Frames.{more, none}
 use Rattle.wal.proofs.Opens.{size-range}
 use Rattle.waljudge.specs.Judge.{isCommit, isOf, upToCommit, lastPlace, endOf, judgedBy, judged, foundBy, foundIn}
 use Rattle.walwrite.specs.Write.{listed}
 use Rattle.walwrite.proofs.Laws.{head-length}
-use Rattle.desk.specs.Desk.{lastListed}
+use Rattle.rules.specs.declared.Bad.the-variants.{Page}
+use Rattle.rules.specs.declared.Refusal.the-variants.{Argument}
+use Rattle.rules.specs.Answers.{codeOf}
+use Rattle.desk.specs.Desk.{lastListed, Reads}
 use Rattle.desk.proofs.Fields.{log-opened, frame-seen}
 
 -- the frames that a list of pages gives, from a place on
@@ -170,3 +172,72 @@ few-frames h image count [] s = omega arith
 few-frames h image count (p ∷ ps) s =
     let c : ℕ = commitBefore count ps in
     omega (arith, few-frames h image count ps (imageSums h s (p + 1) c (image p)), length-append (frameBytes h s (p + 1) c (image p)) (framesBytes h image count ps (imageSums h s (p + 1) c (image p))), frame-length h s (p + 1) c (image p))
+
+frames-length : (h : Header) (image : ℕ → List ℕ) (count : ℕ) → ((p : ℕ) → p < count → length (image p) ≡ h .size) → (l : List ℕ) (s : Sums) → listed count l ≡ true → length (framesBytes h image count l s) ≡ length l * frameSize h
+unfolding framesBytes every
+frames-length h image count sized [] s k = omega arith
+frames-length h image count sized (p ∷ ps) s k =
+    let b = and-both (ltb p count) (listed count ps) k in
+    let c : ℕ = commitBefore count ps in
+    let s′ : Sums = imageSums h s (p + 1) c (image p) in
+    let below : p < count = ltb-true p count (b .0) in
+    length-append (frameBytes h s (p + 1) c (image p)) (framesBytes h image count ps s′)
+    ∙ omega (arith, frame-length h s (p + 1) c (image p), sized p below, frames-length h image count sized ps s′ (b .1), suc-mul (length ps) (frameSize h))
+
+-- the whole: what a reader finds in a log that was written
+module _ (big : Bool) (size sequence a b : ℕ) (image : ℕ → List ℕ) (count : ℕ) (list : List ℕ) (zs : isPageSize size ≡ true) (ha : a < 2 ^ 32) (hb : b < 2 ^ 32) (some : 1 ≤ count) (few : count ≤ 1024) (sized : (p : ℕ) → p < count → length (image p) ≡ size) (all : listed count list ≡ true) where
+  head : Header
+  head = headOf big size sequence a b
+
+  log : List ℕ
+  log = written big size sequence a b image count list
+
+  log-length : length log ≡ 32 + length list * (24 + size)
+  unfolding log written head headOf
+  log-length =
+      length-append (headBytes big size sequence a b) (framesBytes head image count list (head .sums))
+      ∙ (λ i. head-length big size sequence a b i + frames-length head image count sized list (head .sums) all i)
+
+  log-good : opened log ≡ Good head
+  unfolding log written head
+  log-good = log-opened big size sequence a b (framesBytes head image count list (head .sums)) zs (omega (arith, size-range size zs .1)) ha hb
+
+  log-frames : validFrames head log ≡ logFrames (24 + size) count 32 list
+  unfolding validFrames log written head headOf
+  log-frames =
+      let n : length list ≤ length log = omega (arith, few-frames head image count list (head .sums), length-append (headBytes big size sequence a b) (framesBytes head image count list (head .sums))) in
+      frames-valid head image count few ha hb sized list (headBytes big size sequence a b) 32 (length log) (head .sums) all (head-length big size sequence a b) n
+
+  log-valid : (1 ≤ length list) → judged log ≡ record { code = 0; frames = length list; end = length log }
+  unfolding judged head headOf
+  log-valid m =
+      let w : ℕ = 24 + size in
+      let n : length (validFrames head log) ≡ length list = ap length log-frames ∙ length-frames w count 32 list in
+      let e : endOf size (validFrames head log) ≡ length log = ap (endOf size) log-frames ∙ ends list m ∙ sym log-length in
+      ap (judgedBy log) log-good ∙ (λ i. record { code = 0; frames = n i; end = e i })
+    where
+      ends : (l : List ℕ) → 1 ≤ length l → endOf size (logFrames (24 + size) count 32 l) ≡ 32 + length l * (24 + size)
+      ends [] k = absurd (omega arith)
+      ends (p ∷ ps) k =
+          ap (λ (t : Bool). cond t (lastPlace isCommit 0 (logFrames (24 + size) count 32 (p ∷ ps)) + size) 0) (any-commit (24 + size) count some 32 p ps)
+          ∙ omega (arith, end-commit (24 + size) count some 32 0 p ps)
+
+  log-found : (p : ℕ) → any (λ (q : ℕ). eqb q p) list ≡ true → foundIn log (p + 1) ≡ record { code = 0; found = 1; at = lastListed (24 + size) p 32 0 list }
+  unfolding foundIn
+  log-found p m =
+      let w : ℕ = 24 + size in
+      let up : upToCommit (validFrames head log) ≡ logFrames w count 32 list = ap upToCommit log-frames ∙ all-up w count some 32 list in
+      let n : any (isOf (p + 1)) (upToCommit (validFrames head log)) ≡ true = ap (any (isOf (p + 1))) up ∙ any-listed w count p 32 list ∙ m in
+      let e : lastPlace (isOf (p + 1)) 0 (upToCommit (validFrames head log)) ≡ lastListed w p 32 0 list = ap (lastPlace (isOf (p + 1)) 0) up ∙ last-listed w count p 32 0 list in
+      ap (λ (t : Bool). cond t (record { code = codeOf (Argument Page); found = 0; at = 0 }) (foundBy log (p + 1) (opened log))) (ne-eqb (p + 1) 0 (λ (z : p + 1 ≡ 0). omega arith))
+      ∙ ap (foundBy log (p + 1)) log-good
+      ∙ (λ i. record { code = 0; found = cond (n i) 1 0; at = e i })
+
+  log-shows : (p : ℕ) → any (λ (q : ℕ). eqb q p) list ≡ true → take size (drop (lastListed (24 + size) p 32 0 list) log) ≡ image p
+  unfolding log written head headOf
+  log-shows p m = image-stands head image count few ha hb sized p list (headBytes big size sequence a b) 32 0 (head .sums) all (head-length big size sequence a b) m
+
+  -- a log written by Two is accepted to its last frame, its commit frame is the last, and each page listed is found with the image written, the last one
+  pub log-reads : (1 ≤ length list) → Reads size image list (written big size sequence a b image count list)
+  unfolding log
+  log-reads m = record { whole = log-length; valid = log-valid m; found = log-found; shows = log-shows }

@@ -6,8 +6,8 @@ use lib.ListN.{drop}
 use lib.Dec.{eqb, leb, ltb}
 use Rattle.word.specs.Word.{num}
 use Rattle.record.specs.Rows.{rows}
-use Rattle.record.specs.Record.{isLength, wellFormed}
-use Rattle.rules.specs.Lent.{stampAt, dirtyAt}
+use Rattle.record.specs.Record.{logWidth, isLength, wellFormed}
+use Rattle.rules.specs.Lent.{lastIn, closedIn, loggedIn, stampAt, dirtyAt}
 use Rattle.rules.specs.Sound.{every, upTo, zeros, between}
 
 -- the fields of a record, as `wellFormed` tests them of a row
@@ -45,6 +45,6 @@ soundDirties marks pages first closed = upTo (dirtyWithin marks pages first clos
 
 unfoldable pub soundMarks : List ℕ → List ℕ → ℕ → ℕ → ℕ → Bool
 soundMarks marks log size pages logSize =
-    soundCounts (num 4 marks 0) (num 4 marks 4) (num 4 marks 8) logSize && soundStamps marks pages (num 4 marks 0) (num 4 marks 4)
-    && soundDirties marks pages (num 4 marks 0 - num 4 marks 8 + 1) (num 4 marks 4) && every (wellFormed size pages) (rows 14 (num 4 marks 8) log 0)
-    && zeros (drop (num 4 marks 8 * 14) log)
+    soundCounts (lastIn marks) (closedIn marks) (loggedIn marks) logSize && soundStamps marks pages (lastIn marks) (closedIn marks)
+    && soundDirties marks pages (lastIn marks - loggedIn marks + 1) (closedIn marks) && every (wellFormed size pages) (rows logWidth (loggedIn marks) log 0)
+    && zeros (drop (loggedIn marks * logWidth) log)

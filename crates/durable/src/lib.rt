@@ -7,9 +7,10 @@ ghost use Prim.Native.Nat.{ℕ, _+_, _*_, _^_, _≤_, _<_};
 ghost use lib.ListN.{length, drop};
 ghost use lib.Dec.{ltb};
 ghost use Rattle.record.specs.Rows.{rowAt, rows};
-ghost use Rattle.record.specs.Record.{isLength, wellFormed};
+ghost use Rattle.record.specs.Record.{logWidth, isLength, wellFormed};
 ghost use Rattle.rules.specs.Areas.{before};
 ghost use Rattle.rules.specs.Sound.{every, upTo, zeros, isPageSize, inRange, exactLengths, soundDurable};
+ghost use Rattle.rules.specs.Lent.{marksLength};
 ghost use Rattle.durable.specs.Limits.{placesOf, mostValues};
 ghost use Rattle.durable.specs.Marks.{isRecord, soundCounts, numberWithin, soundStamps, dirtyFrom, soundDirties, soundMarks};
 use number::LogNo;
@@ -88,7 +89,7 @@ pub fn well_formed(
     places: &[usize; 9],
     most: &[u64; 9],
 ) -> bool
-    requires { ⌜ (14 ≤ w) × (i * w + w ≤ length (now t)) × (now places ≡ placesOf size) × (now most ≡ mostValues) ⌝ }
+    requires { ⌜ (logWidth ≤ w) × (i * w + w ≤ length (now t)) × (now places ≡ placesOf size) × (now most ≡ mostValues) ⌝ }
     ensures { λ r. ⌜ r ≡ wellFormed size pages (rowAt w (now (t .entry)) i) ⌝ }
 {
     let page = record::page_of(t, w, i);
@@ -101,14 +102,14 @@ pub fn well_formed(
 
 // The first n log rows are records.
 fn log_records(log: &[u8], n: usize, size: usize, pages: usize) -> bool
-    requires { ⌜ (n * 14 ≤ length (now log)) × (8 ≤ size) ⌝ }
-    ensures { λ r. ⌜ r ≡ every (wellFormed size pages) (rows 14 n (now (log .entry)) 0) ⌝ }
+    requires { ⌜ (n * logWidth ≤ length (now log)) × (8 ≤ size) ⌝ }
+    ensures { λ r. ⌜ r ≡ every (wellFormed size pages) (rows logWidth n (now (log .entry)) 0) ⌝ }
 {
     let places = places_of(size);
     let most = most_values();
     let mut i = 0;
     while i < n {
-        if !well_formed(log, 14, i, size, pages, &places, &most) {
+        if !well_formed(log, record::LOG_WIDTH, i, size, pages, &places, &most) {
             return false;
         }
         i += 1;
@@ -148,23 +149,23 @@ fn all_at_most(marks: &[u8], at: usize, pages: usize, most: LogNo) -> bool
 
 // K and every stamp are at most L.
 fn stamps(marks: &[u8], pages: usize, last: LogNo, closed: LogNo) -> bool
-    requires { ⌜ (12 + 8 * pages ≤ length (now marks)) × (last .0 < 4294967296) ⌝ }
+    requires { ⌜ (marksLength pages ≤ length (now marks)) × (last .0 < 4294967296) ⌝ }
     ensures { λ r. ⌜ r ≡ soundStamps (now (marks .entry)) pages (last .0) (closed .0) ⌝ }
 {
-    (closed.0 <= last.0) & all_at_most(marks, 12, pages, last)
+    (closed.0 <= last.0) & all_at_most(marks, layout::STAMPS_AT, pages, last)
 }
 
 // S19: every dirty number is none, or from the log's first number on; `below` is the number before that.
 // One test serves both, since one less than none is the greatest number of all.
 fn none_before(marks: &[u8], pages: usize, below: LogNo) -> bool
-    requires { ⌜ (12 + 8 * pages ≤ length (now marks)) × (below .0 < 4294967296) ⌝ }
+    requires { ⌜ (marksLength pages ≤ length (now marks)) × (below .0 < 4294967296) ⌝ }
     ensures { λ r. ⌜ r ≡ upTo (dirtyFrom (now (marks .entry)) pages (below .0 + 1)) pages 0 ⌝ }
 {
     let limit = below.0 as u32;
     let mut ok = true;
     let mut p = 0;
     while p < pages {
-        let d = word::load(marks, 12 + 4 * pages + 4 * p, 4) as u32;
+        let d = word::load(marks, layout::STAMPS_AT + 4 * pages + 4 * p, 4) as u32;
         ok = ok & (limit <= std::num::wrapping_sub_u32(d, 1));
         p += 1;
     }
@@ -173,10 +174,11 @@ fn none_before(marks: &[u8], pages: usize, below: LogNo) -> bool
 
 // S17 and S19: a loop for each, since one that looks twice at a number takes them singly.
 fn dirty_numbers(marks: &[u8], pages: usize, below: LogNo, closed: LogNo) -> bool
-    requires { ⌜ (12 + 8 * pages ≤ length (now marks)) × (below .0 < 4294967296) × (closed .0 < 4294967296) ⌝ }
+    requires { ⌜ (marksLength pages ≤ length (now marks)) × (below .0 < 4294967296) × (closed .0 < 4294967296) ⌝ }
     ensures { λ r. ⌜ r ≡ soundDirties (now (marks .entry)) pages (below .0 + 1) (closed .0) ⌝ }
 {
-    all_at_most(marks, 12 + 4 * pages, pages, closed) & none_before(marks, pages, below)
+    all_at_most(marks, layout::STAMPS_AT + 4 * pages, pages, closed)
+        & none_before(marks, pages, below)
 }
 
 // A page size is 512, 1,024, 2,048 or 4,096.
@@ -211,31 +213,31 @@ pub fn exact_lengths(
     requires { ⌜ inRange g ≡ true ⌝ }
     ensures { λ r. ⌜ r ≡ exactLengths (before fixed marks log stored tables online pool) g ⌝ }
 {
-    (marks.len() as u64 == 12 + 8 * g.pages)
-        & (log.len() as u64 == 14 * g.log)
+    (marks.len() as u64 == layout::STAMPS_AT as u64 + 8 * g.pages)
+        & (log.len() as u64 == record::LOG_WIDTH as u64 * g.log)
         & (stored.len() as u64 == g.size * g.pages)
-        & (tables.len() as u64 == 35 + g.frames + g.pages)
-        & (online.len() as u64 == 19 * g.online)
+        & (tables.len() as u64 == layout::ORDER_AT as u64 + g.frames + g.pages)
+        & (online.len() as u64 == record::ONLINE_WIDTH as u64 * g.online)
         & (pool.len() as u64 == g.size * g.frames)
 }
 
 // The log: n rows that are records, and zeros behind them.
 fn sound_log(log: &[u8], n: usize, size: usize, pages: usize) -> bool
-    requires { ⌜ (n * 14 ≤ length (now log)) × (8 ≤ size) ⌝ }
-    ensures { λ r. ⌜ r ≡ (every (wellFormed size pages) (rows 14 n (now (log .entry)) 0) && zeros (drop (n * 14) (now (log .entry)))) ⌝ }
+    requires { ⌜ (n * logWidth ≤ length (now log)) × (8 ≤ size) ⌝ }
+    ensures { λ r. ⌜ r ≡ (every (wellFormed size pages) (rows logWidth n (now (log .entry)) 0) && zeros (drop (n * logWidth) (now (log .entry)))) ⌝ }
 {
-    let end = n * 14;
+    let end = n * record::LOG_WIDTH;
     log_records(log, n, size, pages) & all_zero(&log[end..])
 }
 
 // The marks and the log, once parameters and lengths are right.
 fn sound_marks(marks: &[u8], log: &[u8], size: usize, pages: usize, log_size: u64) -> bool
-    requires { ⌜ (length (now marks) ≡ 12 + 8 * pages) × (length (now log) ≡ 14 * «log_size») × (8 ≤ size) ⌝ }
+    requires { ⌜ (length (now marks) ≡ marksLength pages) × (length (now log) ≡ logWidth * «log_size») × (8 ≤ size) ⌝ }
     ensures { λ r. ⌜ r ≡ soundMarks (now (marks .entry)) (now (log .entry)) size pages «log_size» ⌝ }
 {
-    let last = LogNo(word::load(marks, 0, 4));
-    let closed = LogNo(word::load(marks, 4, 4));
-    let n = word::load(marks, 8, 4);
+    let last = LogNo(word::load(marks, layout::LAST_AT, 4));
+    let closed = LogNo(word::load(marks, layout::CLOSED_AT, 4));
+    let n = word::load(marks, layout::LOGGED_AT, 4);
     if !counts(last, closed, n, log_size) {
         return false;
     }
@@ -261,7 +263,7 @@ pub fn sound_durable(
 ) -> bool
     ensures { λ r. ⌜ r ≡ soundDurable (before fixed marks log stored tables online pool) ⌝ }
 {
-    if fixed.len() != 20 {
+    if fixed.len() != layout::FIXED_LENGTH {
         return false;
     }
     let g = layout::params_of(fixed);

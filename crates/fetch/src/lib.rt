@@ -5,13 +5,12 @@ ghost use mathlib.Core.Bool.{true, cond};
 ghost use mathlib.Core.List.{_++_};
 ghost use Prim.Native.Nat.{_+_, _*_, _≤_, _<_};
 ghost use lib.ListN.{length, getD, drop, set};
-ghost use Rattle.word.specs.Word.{num};
 ghost use Rattle.record.specs.Part.{part};
 ghost use Rattle.record.specs.Rows.{rowAt, rows, keep};
-ghost use Rattle.record.specs.Record.{onPage, apply, applied, rowOf};
+ghost use Rattle.record.specs.Record.{onlineWidth, onPage, apply, applied, rowOf};
 ghost use Rattle.order.specs.Order.{touched};
 ghost use Rattle.order.specs.Meant.{listOf};
-ghost use Rattle.rules.specs.Lent.{sizeOf, pagesOf, framesOf, onlineSizeOf, countOf, orderOf, entryAt, dirtyIn, pageIn, withPage, withOrder, withEntries, withCount};
+ghost use Rattle.rules.specs.Lent.{orderAt, fixedLength, countIn, sizeOf, pagesOf, framesOf, onlineSizeOf, countOf, orderOf, entryAt, dirtyIn, pageIn, withPage, withOrder, withEntries, withCount};
 ghost use Rattle.rules.specs.Areas.{areas, before};
 ghost use Rattle.rules.specs.Sound.{zeros};
 ghost use Rattle.rules.specs.Shape.{Shaped};
@@ -35,12 +34,12 @@ pub struct Fetched {
 }
 
 fn load_sizes(fixed: &[u8]) -> Sizes
-    requires { ⌜ length (now fixed) ≡ 20 ⌝ }
+    requires { ⌜ length (now fixed) ≡ fixedLength ⌝ }
     ensures { λ r. ⌜ SizesRead (now (fixed .entry)) (r .size) (r .pages) (r .frames) ⌝ }
 {
-    let size = word::load(fixed, 0, 4) as usize;
-    let pages = word::load(fixed, 4, 4) as usize;
-    let frames = word::load(fixed, 8, 4) as usize;
+    let size = word::load(fixed, layout::SIZE_AT, 4) as usize;
+    let pages = word::load(fixed, layout::PAGES_AT, 4) as usize;
+    let frames = word::load(fixed, layout::FRAMES_AT, 4) as usize;
     Sizes {
         size,
         pages,
@@ -51,9 +50,9 @@ fn load_sizes(fixed: &[u8]) -> Sizes
 // How many online records there are.
 fn count_of(tables: &[u8]) -> usize
     requires { ⌜ 2 ≤ length (now tables) ⌝ }
-    ensures { λ r. ⌜ (r ≡ num 2 (now (tables .entry)) 0) × (r < 65536) ⌝ }
+    ensures { λ r. ⌜ (r ≡ countIn (now (tables .entry))) × (r < 65536) ⌝ }
 {
-    word::load(tables, 0, 2) as usize
+    word::load(tables, layout::COUNT_AT, 2) as usize
 }
 
 // The page's entry.
@@ -61,16 +60,16 @@ fn entry_of(tables: &[u8], frames: usize, p: PageNo) -> usize
     requires { ⌜ entryAt frames (p .0) < length (now tables) ⌝ }
     ensures { λ r. ⌜ (r ≡ getD (now (tables .entry)) (entryAt frames (p .0)) 0) × (r < 256) ⌝ }
 {
-    let at = 35 + frames + p.0;
+    let at = layout::ORDER_AT + frames + p.0;
     word::wide(tables[at]) as usize
 }
 
 // Page p goes into frame f: the entries.
 fn take_frame(tables: &mut [u8], frames: usize, pages: usize, f: FrameNo, p: PageNo)
-    requires { ⌜ (35 + frames + pages ≤ length (now tables)) × (f .0 < 64) × (p .0 < pages) ⌝ }
-    ensures { λ r. ⌜ now (tables .exit) ≡ withEntries frames pages (placed (f .0) (p .0) (part (35 + frames) pages (now (tables .entry)))) (now (tables .entry)) ⌝ }
+    requires { ⌜ (orderAt + frames + pages ≤ length (now tables)) × (f .0 < 64) × (p .0 < pages) ⌝ }
+    ensures { λ r. ⌜ now (tables .exit) ≡ withEntries frames pages (placed (f .0) (p .0) (part (orderAt + frames) pages (now (tables .entry)))) (now (tables .entry)) ⌝ }
 {
-    let a = 35 + frames;
+    let a = layout::ORDER_AT + frames;
     let e = a + pages;
     frames::place(&mut tables[a..e], f, p);
 }
@@ -86,8 +85,8 @@ fn fill_frame(
     m: usize,
     evicted: bool,
 )
-    requires { ⌜ (f .0 * size + size ≤ length (now pool)) × (p .0 * size + size ≤ length (now stored)) × (m * 19 ≤ length (now online)) ⌝ }
-    ensures { λ r. ⌜ now (pool .exit) ≡ withPage size (f .0) (now (pool .entry)) (cond evicted (applied (keep (onPage (p .0)) (rows 19 m (now (online .entry)) 0)) (pageIn size (p .0) (now (stored .entry)))) (pageIn size (p .0) (now (stored .entry)))) ⌝ }
+    requires { ⌜ (f .0 * size + size ≤ length (now pool)) × (p .0 * size + size ≤ length (now stored)) × (m * onlineWidth ≤ length (now online)) ⌝ }
+    ensures { λ r. ⌜ now (pool .exit) ≡ withPage size (f .0) (now (pool .entry)) (cond evicted (applied (keep (onPage (p .0)) (rows onlineWidth m (now (online .entry)) 0)) (pageIn size (p .0) (now (stored .entry)))) (pageIn size (p .0) (now (stored .entry)))) ⌝ }
 {
     let a = f.0 * size;
     let e = a + size;
@@ -150,7 +149,7 @@ pub fn fetch(
 
 // Frame f becomes the latest used.
 fn make_latest(tables: &mut [u8], frames: usize, order: Order, f: FrameNo)
-    requires { ⌜ (35 + frames ≤ length (now tables)) × (frames ≤ 64) × (order .used ≤ 64) × (f .0 < 256) ⌝ }
+    requires { ⌜ (orderAt + frames ≤ length (now tables)) × (frames ≤ 64) × (order .used ≤ 64) × (f .0 < 256) ⌝ }
     ensures { λ r. ⌜ now (tables .exit) ≡ withOrder frames (touched (f .0) (listOf order)) (now (tables .entry)) ⌝ }
 {
     let next = order.touch(f);
@@ -187,7 +186,7 @@ fn copy_out(pool: &[u8], size: usize, f: FrameNo, offset: usize, w: usize, buffe
 {
     let a = f.0 * size + offset;
     let e = a + w;
-    frames::copy(&mut buffer[..w], &pool[a..e]);
+    fill::copy(&mut buffer[..w], &pool[a..e]);
 }
 
 // The w bytes at an offset of page p, to the front of the buffer.
@@ -220,7 +219,7 @@ fn mark_dirty(tables: &mut [u8], frames: usize, f: FrameNo, p: PageNo)
     requires { ⌜ (entryAt frames (p .0) < length (now tables)) × (f .0 < 64) ⌝ }
     ensures { λ r. ⌜ now (tables .exit) ≡ set (now (tables .entry)) (entryAt frames (p .0)) (dirtyIn (f .0)) ⌝ }
 {
-    let at = 35 + frames + p.0;
+    let at = layout::ORDER_AT + frames + p.0;
     tables[at] = (2 * (f.0 + 1) + 1) as u8;
 }
 
@@ -231,7 +230,7 @@ fn note_change(tables: &mut [u8], frames: usize, order: Order, f: FrameNo, p: Pa
 {
     mark_dirty(tables, frames, f, p);
     make_latest(tables, frames, order, f);
-    word::store(tables, 0, 2, (m + 1) as u64);
+    word::store(tables, layout::COUNT_AT, 2, (m + 1) as u64);
 }
 
 // Page p in a frame, which becomes the latest used, and dirty there, with one online record more.
@@ -260,12 +259,12 @@ fn change_page(
 
 // Online row m, applied to the page in frame f: the frame's bytes, lent on by themselves.
 fn apply_in(pool: &mut [u8], size: usize, f: FrameNo, online: &[u8], m: usize)
-    requires { ⌜ (f .0 * size + size ≤ length (now pool)) × (m * 19 + 19 ≤ length (now online)) ⌝ }
-    ensures { λ r. ⌜ now (pool .exit) ≡ withPage size (f .0) (now (pool .entry)) (apply (rowAt 19 (now (online .entry)) m) (pageIn size (f .0) (now (pool .entry)))) ⌝ }
+    requires { ⌜ (f .0 * size + size ≤ length (now pool)) × (m * onlineWidth + onlineWidth ≤ length (now online)) ⌝ }
+    ensures { λ r. ⌜ now (pool .exit) ≡ withPage size (f .0) (now (pool .entry)) (apply (rowAt onlineWidth (now (online .entry)) m) (pageIn size (f .0) (now (pool .entry)))) ⌝ }
 {
     let a = f.0 * size;
     let e = a + size;
-    apply::apply_row(online, 19, m, &mut pool[a..e]);
+    apply::apply_row(online, record::ONLINE_WIDTH, m, &mut pool[a..e]);
 }
 
 // An owner's change of w bytes at an offset of page p: recorded, and made in the page's frame.
@@ -284,7 +283,7 @@ pub fn update(
     v: u64,
     owner: u8,
 ) -> u32
-    requires { ⌜ Shaped (areas fixed marks log stored tables online pool) × (p .0 < pagesOf (areas fixed marks log stored tables online pool)) × (offset + w ≤ sizeOf (areas fixed marks log stored tables online pool)) × (w ≤ 8) × (countOf (areas fixed marks log stored tables online pool) < onlineSizeOf (areas fixed marks log stored tables online pool)) × (zeros (drop (countOf (areas fixed marks log stored tables online pool) * 19) (now online)) ≡ true) ⌝ }
+    requires { ⌜ Shaped (areas fixed marks log stored tables online pool) × (p .0 < pagesOf (areas fixed marks log stored tables online pool)) × (offset + w ≤ sizeOf (areas fixed marks log stored tables online pool)) × (w ≤ 8) × (countOf (areas fixed marks log stored tables online pool) < onlineSizeOf (areas fixed marks log stored tables online pool)) × (zeros (drop (countOf (areas fixed marks log stored tables online pool) * onlineWidth) (now online)) ≡ true) ⌝ }
     ensures { λ r. ⌜ UpdateDone (before fixed marks log stored tables online pool) (rowOf (p .0) offset w kind v owner) r (now (tables .exit)) (now (online .exit)) (now (pool .exit)) ⌝ }
 {
     let s = load_sizes(fixed);

@@ -14,10 +14,6 @@ use Rattle.record.specs.Record.{applied}
 use Rattle.rules.specs.Lent.{pageIn, withOrder}
 use Rattle.rules.specs.Steps.{freed, placed}
 
--- all of one list over another of its length
-pub copy-end : (t s : List ℕ) (i : ℕ) → length s ≡ length t → length t ≤ i → take i s ≡ take i t → s ≡ t
-copy-end t s i e p h = sym (take-all i s (omega arith)) ∙ h ∙ take-all i t p
-
 -- one element more is changed
 pub map-turn : (f : ℕ → ℕ) (es : List ℕ) (i v : ℕ) (l : List ℕ) → i < length es → v ≡ f (getD es i 0) → take i es ++ map f (drop i es) ≡ l → take (i + 1) (set es i v) ++ map f (drop (i + 1) (set es i v)) ≡ l
 map-turn f es i v l p e h =

@@ -4,28 +4,16 @@ ghost use mathlib.Core.Path.{_≡_};
 ghost use mathlib.Core.Bool.{cond};
 ghost use mathlib.Core.List.{map};
 ghost use Prim.Native.Nat.{_+_, _*_, _≤_, _<_};
-ghost use lib.ListN.{length, getD};
+ghost use lib.ListN.{length};
 ghost use Rattle.order.specs.Meant.{listOf};
 ghost use Rattle.record.specs.Part.{part};
 ghost use Rattle.record.specs.Rows.{rows, keep};
-ghost use Rattle.record.specs.Record.{onPage, applied};
-ghost use Rattle.rules.specs.Lent.{pageIn, withOrder};
+ghost use Rattle.record.specs.Record.{onlineWidth, onPage, applied};
+ghost use Rattle.rules.specs.Lent.{orderAt, usedIn, pageIn, withOrder};
 ghost use Rattle.rules.specs.Steps.{freed, placed};
 use number::FrameNo;
 use number::PageNo;
 use order::Order;
-
-// All of `from` over all of `to`.
-pub fn copy(to: &mut [u8], from: &[u8])
-    requires { ⌜ length (now to) ≡ length (now from) ⌝ }
-    ensures { λ r. ⌜ now (to .exit) ≡ now (from .entry) ⌝ }
-{
-    let mut i = 0;
-    while i < from.len() {
-        to[i] = from[i];
-        i += 1;
-    }
-}
 
 // The stored page, with its online records applied in table order where it was evicted.
 pub fn rebuild(
@@ -37,12 +25,12 @@ pub fn rebuild(
     m: usize,
     evicted: bool,
 )
-    requires { ⌜ (length (now g) ≡ size) × (p .0 * size + size ≤ length (now stored)) × (m * 19 ≤ length (now online)) ⌝ }
-    ensures { λ r. ⌜ now (g .exit) ≡ cond evicted (applied (keep (onPage (p .0)) (rows 19 m (now (online .entry)) 0)) (pageIn size (p .0) (now (stored .entry)))) (pageIn size (p .0) (now (stored .entry))) ⌝ }
+    requires { ⌜ (length (now g) ≡ size) × (p .0 * size + size ≤ length (now stored)) × (m * onlineWidth ≤ length (now online)) ⌝ }
+    ensures { λ r. ⌜ now (g .exit) ≡ cond evicted (applied (keep (onPage (p .0)) (rows onlineWidth m (now (online .entry)) 0)) (pageIn size (p .0) (now (stored .entry)))) (pageIn size (p .0) (now (stored .entry))) ⌝ }
 {
     let a = p.0 * size;
     let e = a + size;
-    copy(g, &stored[a..e]);
+    fill::copy(g, &stored[a..e]);
     if !evicted {
         return;
     }
@@ -83,20 +71,23 @@ pub fn place(entries: &mut [u8], f: FrameNo, p: PageNo)
 
 // The use order that the tables hold.
 pub fn load_order(tables: &[u8], frames: usize) -> Order
-    requires { ⌜ (35 + frames ≤ length (now tables)) × (getD (now tables) 2 0 ≤ frames) × (frames ≤ 64) ⌝ }
-    ensures { λ r. ⌜ (listOf r ≡ part 35 (getD (now (tables .entry)) 2 0) (now (tables .entry))) × (r .used ≤ 64) ⌝ }
+    requires { ⌜ (orderAt + frames ≤ length (now tables)) × (usedIn (now tables) ≤ frames) × (frames ≤ 64) ⌝ }
+    ensures { λ r. ⌜ (listOf r ≡ part orderAt (usedIn (now (tables .entry))) (now (tables .entry))) × (r .used ≤ 64) ⌝ }
 {
-    let e = 35 + frames;
-    order::load(&tables[35..e], tables[2] as usize)
+    let e = layout::ORDER_AT + frames;
+    order::load(
+        &tables[layout::ORDER_AT..e],
+        tables[layout::USED_AT] as usize,
+    )
 }
 
 // The tables with another use order.
 pub fn save_order(tables: &mut [u8], frames: usize, order: Order)
-    requires { ⌜ (35 + frames ≤ length (now tables)) × (frames ≤ 64) × (order .used ≤ 65) ⌝ }
+    requires { ⌜ (orderAt + frames ≤ length (now tables)) × (frames ≤ 64) × (order .used ≤ 65) ⌝ }
     ensures { λ r. ⌜ now (tables .exit) ≡ withOrder frames (listOf order) (now (tables .entry)) ⌝ }
 {
-    let e = 35 + frames;
+    let e = layout::ORDER_AT + frames;
     let used = order.used;
-    order.save(&mut tables[35..e]);
-    tables[2] = used as u8;
+    order.save(&mut tables[layout::ORDER_AT..e]);
+    tables[layout::USED_AT] = used as u8;
 }

@@ -6,8 +6,9 @@ ghost use mathlib.Core.Bool.{true, _&&_};
 ghost use lib.ListN.{length};
 ghost use lib.Dec.{leb, ltb};
 ghost use Rattle.record.specs.Rows.{rowAt, rows};
-ghost use Rattle.record.specs.Record.{isLength};
+ghost use Rattle.record.specs.Record.{onlineWidth, isLength};
 ghost use Rattle.rules.specs.Sound.{between};
+ghost use Rattle.rules.specs.Lent.{orderAt};
 ghost use Rattle.rules.specs.Calls.{clashes, heldToRead, isNumber, isLive, verdictOf, beginRefusals, readRefusals, updateRefusals, abortRefusals, evictRefusals, commitRefusals, compactRefusals, checkpointRefusals};
 use rules::Bad;
 use rules::Refusal;
@@ -22,15 +23,15 @@ pub fn is_number(x: u32) -> bool
 
 // Number x is live.
 pub fn is_live(tables: &[u8], x: u32) -> bool
-    requires { ⌜ (x ≤ 32) × (35 ≤ length (now tables)) ⌝ }
+    requires { ⌜ (x ≤ 32) × (orderAt ≤ length (now tables)) ⌝ }
     ensures { λ r. ⌜ r ≡ isLive (now (tables .entry)) x ⌝ }
 {
-    let at = 2 + x as usize;
+    let at = layout::LIVE_AT + x as usize;
     tables[at] == 1
 }
 
 pub fn may_begin(tables: &[u8], x: u32) -> Verdict
-    requires { ⌜ 35 ≤ length (now tables) ⌝ }
+    requires { ⌜ orderAt ≤ length (now tables) ⌝ }
     ensures { λ r. ⌜ r ≡ verdictOf (beginRefusals (isLive (now (tables .entry))) x) ⌝ }
 {
     if !is_number(x) {
@@ -43,7 +44,7 @@ pub fn may_begin(tables: &[u8], x: u32) -> Verdict
 }
 
 pub fn may_abort(tables: &[u8], x: u32) -> Verdict
-    requires { ⌜ 35 ≤ length (now tables) ⌝ }
+    requires { ⌜ orderAt ≤ length (now tables) ⌝ }
     ensures { λ r. ⌜ r ≡ verdictOf (abortRefusals (isLive (now (tables .entry))) x) ⌝ }
 {
     if !is_number(x) {
@@ -56,7 +57,7 @@ pub fn may_abort(tables: &[u8], x: u32) -> Verdict
 }
 
 pub fn may_commit(span: usize, n: usize, last: u64, tables: &[u8], k: usize, x: u32) -> Verdict
-    requires { ⌜ (35 ≤ length (now tables)) × (n ≤ 2048) × (k ≤ 512) × (last < 4294967296) ⌝ }
+    requires { ⌜ (orderAt ≤ length (now tables)) × (n ≤ 2048) × (k ≤ 512) × (last < 4294967296) ⌝ }
     ensures { λ r. ⌜ r ≡ verdictOf (commitRefusals span n last (isLive (now (tables .entry))) k x) ⌝ }
 {
     if !is_number(x) {
@@ -115,21 +116,21 @@ pub fn may_checkpoint(min_del: u32, max_age: u32) -> Verdict
 
 // Row i of the online table is another live owner's, and has a byte of those asked for.
 fn clashes_row(online: &[u8], i: usize, x: u32, p: u32, offset: u32, w: u32) -> bool
-    requires { ⌜ i * 19 + 19 ≤ length (now online) ⌝ }
-    ensures { λ r. ⌜ r ≡ clashes x p offset w (rowAt 19 (now (online .entry)) i) ⌝ }
+    requires { ⌜ i * onlineWidth + onlineWidth ≤ length (now online) ⌝ }
+    ensures { λ r. ⌜ r ≡ clashes x p offset w (rowAt onlineWidth (now (online .entry)) i) ⌝ }
 {
     let owner = record::owner_of(online, i) as u32;
-    let page = record::page_of(online, 19, i);
-    let from = record::offset_of(online, 19, i);
-    let to = from + record::length_of(online, 19, i);
+    let page = record::page_of(online, record::ONLINE_WIDTH, i);
+    let from = record::offset_of(online, record::ONLINE_WIDTH, i);
+    let to = from + record::length_of(online, record::ONLINE_WIDTH, i);
     let at = offset as usize;
     (owner != 0) & (owner != x) & ((page.0 == p as usize) & (from < at + w as usize) & (at < to))
 }
 
 // A byte asked for is in another live owner's record.
 fn is_held(online: &[u8], m: usize, x: u32, p: u32, offset: u32, w: u32) -> bool
-    requires { ⌜ m * 19 ≤ length (now online) ⌝ }
-    ensures { λ r. ⌜ r ≡ heldToRead (rows 19 m (now (online .entry)) 0) x p offset w ⌝ }
+    requires { ⌜ m * onlineWidth ≤ length (now online) ⌝ }
+    ensures { λ r. ⌜ r ≡ heldToRead (rows onlineWidth m (now (online .entry)) 0) x p offset w ⌝ }
 {
     let mut i = 0;
     while i < m {
@@ -177,8 +178,8 @@ pub fn may_read(
     offset: u32,
     w: u32,
 ) -> Verdict
-    requires { ⌜ (35 ≤ length (now tables)) × (m * 19 ≤ length (now online)) ⌝ }
-    ensures { λ r. ⌜ r ≡ verdictOf (readRefusals size pages (isLive (now (tables .entry))) (rows 19 m (now (online .entry)) 0) room x p offset w) ⌝ }
+    requires { ⌜ (orderAt ≤ length (now tables)) × (m * onlineWidth ≤ length (now online)) ⌝ }
+    ensures { λ r. ⌜ r ≡ verdictOf (readRefusals size pages (isLive (now (tables .entry))) (rows onlineWidth m (now (online .entry)) 0) room x p offset w) ⌝ }
 {
     if pages <= p as usize {
         return Verdict::Refuse(Refusal::Argument(Bad::Page));
@@ -225,8 +226,8 @@ pub fn may_update(
     kind: u32,
     v: u64,
 ) -> Verdict
-    requires { ⌜ (35 ≤ length (now tables)) × (m ≤ 512) × (m * 19 ≤ length (now online)) × (size ≤ 4096) × (pages ≤ 1024) ⌝ }
-    ensures { λ r. ⌜ r ≡ verdictOf (updateRefusals size pages room m (isLive (now (tables .entry))) (rows 19 m (now (online .entry)) 0) x p offset w kind v) ⌝ }
+    requires { ⌜ (orderAt ≤ length (now tables)) × (m ≤ 512) × (m * onlineWidth ≤ length (now online)) × (size ≤ 4096) × (pages ≤ 1024) ⌝ }
+    ensures { λ r. ⌜ r ≡ verdictOf (updateRefusals size pages room m (isLive (now (tables .entry))) (rows onlineWidth m (now (online .entry)) 0) x p offset w kind v) ⌝ }
 {
     if pages <= p as usize {
         return Verdict::Refuse(Refusal::Argument(Bad::Page));

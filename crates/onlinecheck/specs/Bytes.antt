@@ -8,7 +8,7 @@ use mathlib.Core.List.{List, [], _∷_}
 use lib.ListN.{length, getD, set}
 use lib.Dec.{eqb, leb, ltb}
 use Rattle.record.specs.Rows.{rowAt, rows, keep}
-use Rattle.record.specs.Record.{pageOf, offsetOf, lengthOf, ownerOf, committed}
+use Rattle.record.specs.Record.{onlineWidth, pageOf, offsetOf, lengthOf, ownerOf, committed}
 use Rattle.rules.specs.Sound.{pairs, upTo, apart}
 
 -- an uncommitted row of page p
@@ -22,13 +22,13 @@ bounded r = leb 1 (lengthOf r) && leb (offsetOf r + lengthOf r) 4096 && leb (own
 -- the rows from index j on, each followed by the one that `after` names; indices rise from `low`, and one that is no row's ends the chain
 pub data Chain (t : List ℕ) (m : ℕ) (after : List ℕ) : ℕ → ℕ → List (List ℕ) → Type 0 where
   ends : {low j : ℕ} → m ≤ j → Chain t m after low j []
-  goes : {low j : ℕ} {l : List (List ℕ)} → low ≤ j → j < m → Chain t m after (j + 1) (getD after j 0) l → Chain t m after low j (rowAt 19 t j ∷ l)
+  goes : {low j : ℕ} {l : List (List ℕ)} → low ≤ j → j < m → Chain t m after (j + 1) (getD after j 0) l → Chain t m after low j (rowAt onlineWidth t j ∷ l)
 
 -- each page's chain has its uncommitted rows from row i on
 pub record Linked (t : List ℕ) (m i : ℕ) (heads after : List ℕ) : Type 0 where
   pub wide : length heads ≡ 1024
   pub long : length after ≡ 512
-  pub chains : (p : ℕ) → p < 1024 → Chain t m after i (getD heads p 0) (keep (openOn p) (rows 19 (m - i) t i))
+  pub chains : (p : ℕ) → p < 1024 → Chain t m after i (getD heads p 0) (keep (openOn p) (rows onlineWidth (m - i) t i))
 
 -- row i in front of its page's chain; a committed row is in none
 unfoldable pub headsWith : List ℕ → ℕ → List ℕ → List ℕ
@@ -66,4 +66,4 @@ withRows base a (r ∷ l) = withRows base (withRow base a r) l
 pub record Passed (t : List ℕ) (m i : ℕ) (heads marks : List ℕ) : Type 0 where
   pub wide : length marks ≡ 4096
   pub most : (b : ℕ) → getD marks b 0 ≤ i * 64
-  pub clear : (p : ℕ) → p < 1024 → getD heads p 0 < i → pairs apart (keep (openOn p) (rows 19 m t 0)) ≡ true
+  pub clear : (p : ℕ) → p < 1024 → getD heads p 0 < i → pairs apart (keep (openOn p) (rows onlineWidth m t 0)) ≡ true

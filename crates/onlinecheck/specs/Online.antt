@@ -7,8 +7,8 @@ use lib.Dec.{eqb, leb, ltb}
 use Rattle.word.specs.Word.{num}
 use Rattle.record.specs.Part.{part}
 use Rattle.record.specs.Rows.{rowAt, rows, any}
-use Rattle.record.specs.Record.{pageOf, ownerOf, numberOf, committed, bodyOf, onPage, wellFormed}
-use Rattle.rules.specs.Lent.{isDirty}
+use Rattle.record.specs.Record.{onlineWidth, logWidth, pageOf, ownerOf, numberOf, committed, bodyOf, onPage, wellFormed}
+use Rattle.rules.specs.Lent.{orderAt, isDirty}
 use Rattle.rules.specs.Sound.{every, pairs, upTo, zeros, between, same, agree, apart}
 
 -- S8: a row's owner and number, by the live set of the tables and the last number
@@ -17,7 +17,7 @@ owningIn tables last r = cond (committed r) (between 1 (numberOf r) last) (leb (
 
 -- S10: a committed row is the log's row of its number
 unfoldable pub inLog : List ℕ → ℕ → List ℕ → Bool
-inLog log first r = not (committed r) || (leb first (numberOf r) && same (bodyOf r) (rowAt 14 log (numberOf r - first)))
+inLog log first r = not (committed r) || (leb first (numberOf r) && same (bodyOf r) (rowAt logWidth log (numberOf r - first)))
 
 -- S11: a committed row's number is above its page's stamp
 unfoldable pub pastStamp : List ℕ → List ℕ → Bool
@@ -38,11 +38,11 @@ rowTest tables log marks size pages last first r = wellFormed size pages r && ow
 -- S7, S8, S14, S10, S11, S9, S12, S13
 unfoldable pub onlineTest : List ℕ → ℕ → List ℕ → ℕ → List ℕ → List ℕ → ℕ → ℕ → ℕ → ℕ → Bool
 onlineTest online m log n marks tables size pages frames last =
-    every (wellFormed size pages) (rows 19 m online 0)
-    && every (owningIn tables last) (rows 19 m online 0)
-    && zeros (drop (m * 19) online)
-    && every (inLog log (last - n + 1)) (rows 19 m online 0)
-    && every (pastStamp marks) (rows 19 m online 0)
-    && pairs otherNumber (rows 19 m online 0)
-    && upTo (entryAgrees (part (35 + frames) pages tables) (rows 19 m online 0)) pages 0
-    && pairs apart (rows 19 m online 0)
+    every (wellFormed size pages) (rows onlineWidth m online 0)
+    && every (owningIn tables last) (rows onlineWidth m online 0)
+    && zeros (drop (m * onlineWidth) online)
+    && every (inLog log (last - n + 1)) (rows onlineWidth m online 0)
+    && every (pastStamp marks) (rows onlineWidth m online 0)
+    && pairs otherNumber (rows onlineWidth m online 0)
+    && upTo (entryAgrees (part (orderAt + frames) pages tables) (rows onlineWidth m online 0)) pages 0
+    && pairs apart (rows onlineWidth m online 0)

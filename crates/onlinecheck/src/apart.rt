@@ -6,7 +6,7 @@ ghost use mathlib.Core.Bool.{true, false};
 ghost use Prim.Native.Nat.{_+_, _*_, _-_, _≤_, _<_};
 ghost use lib.ListN.{length};
 ghost use Rattle.record.specs.Rows.{rowAt, rows, keep};
-ghost use Rattle.record.specs.Record.{pageOf};
+ghost use Rattle.record.specs.Record.{onlineWidth, pageOf};
 ghost use Rattle.rules.specs.Sound.{every, pairs, upTo, apart};
 ghost use Rattle.rules.specs.Shape.{pageBelow};
 ghost use Rattle.onlinecheck.specs.Bytes.{openOn, bounded, Chain, Linked, Passed, headsWith, afterWith, freeByte, markBytes, freeRow, withRow, freeRows, withRows};
@@ -14,14 +14,14 @@ use super::few;
 
 // Row i goes in front of its page's chain, unless it is committed.
 fn link_row(t: &[u8], i: usize, heads: &mut [u16; 1024], after: &mut [u16; 512])
-    requires { ⌜ (i * 19 + 19 ≤ length (now t)) × (i < 512) × (pageOf (rowAt 19 (now t) i) < 1024) ⌝ }
-    ensures { λ r. ⌜ (now (heads .exit) ≡ headsWith (now (heads .entry)) i (rowAt 19 (now (t .entry)) i)) × (now (after .exit) ≡ afterWith (now (heads .entry)) (now (after .entry)) i (rowAt 19 (now (t .entry)) i)) ⌝ }
+    requires { ⌜ (i * onlineWidth + onlineWidth ≤ length (now t)) × (i < 512) × (pageOf (rowAt onlineWidth (now t) i) < 1024) ⌝ }
+    ensures { λ r. ⌜ (now (heads .exit) ≡ headsWith (now (heads .entry)) i (rowAt onlineWidth (now (t .entry)) i)) × (now (after .exit) ≡ afterWith (now (heads .entry)) (now (after .entry)) i (rowAt onlineWidth (now (t .entry)) i)) ⌝ }
 {
     let x = record::owner_of(t, i);
     if x == 0 {
         return;
     }
-    let p = record::page_of(t, 19, i);
+    let p = record::page_of(t, record::ONLINE_WIDTH, i);
     let at = p.0;
     let next = heads[at];
     after[i] = next;
@@ -30,7 +30,7 @@ fn link_row(t: &[u8], i: usize, heads: &mut [u16; 1024], after: &mut [u16; 512])
 
 // From the last row to the first, so that a chain has its rows in table order.
 fn link(t: &[u8], m: usize, heads: &mut [u16; 1024], after: &mut [u16; 512])
-    requires { ⌜ (m * 19 ≤ length (now t)) × (m ≤ 512) × (every (pageBelow 1024) (rows 19 m (now t) 0) ≡ true) × Linked (now t) m m (now heads) (now after) ⌝ }
+    requires { ⌜ (m * onlineWidth ≤ length (now t)) × (m ≤ 512) × (every (pageBelow 1024) (rows onlineWidth m (now t) 0) ≡ true) × Linked (now t) m m (now heads) (now after) ⌝ }
     ensures { λ r. ⌜ Linked (now (t .entry)) m 0 (now (heads .exit)) (now (after .exit)) ⌝ }
 {
     let mut i = m;
@@ -58,12 +58,12 @@ fn take_bytes(a: usize, e: usize, base: u16, mine: u16, marks: &mut [u16; 4096])
 }
 
 fn take_row(t: &[u8], i: usize, base: u16, marks: &mut [u16; 4096]) -> bool
-    requires { ⌜ (i * 19 + 19 ≤ length (now t)) × (base ≤ 65472) × (bounded (rowAt 19 (now t) i) ≡ true) ⌝ }
-    ensures { λ r. ⌜ (r ≡ freeRow base (now (marks .entry)) (rowAt 19 (now (t .entry)) i)) × (r ≡ true → now (marks .exit) ≡ withRow base (now (marks .entry)) (rowAt 19 (now (t .entry)) i)) ⌝ }
+    requires { ⌜ (i * onlineWidth + onlineWidth ≤ length (now t)) × (base ≤ 65472) × (bounded (rowAt onlineWidth (now t) i) ≡ true) ⌝ }
+    ensures { λ r. ⌜ (r ≡ freeRow base (now (marks .entry)) (rowAt onlineWidth (now (t .entry)) i)) × (r ≡ true → now (marks .exit) ≡ withRow base (now (marks .entry)) (rowAt onlineWidth (now (t .entry)) i)) ⌝ }
 {
     let x = record::owner_of(t, i);
-    let a = record::offset_of(t, 19, i);
-    let w = record::length_of(t, 19, i);
+    let a = record::offset_of(t, record::ONLINE_WIDTH, i);
+    let w = record::length_of(t, record::ONLINE_WIDTH, i);
     let mine = base + x as u16;
     take_bytes(a, a + w, base, mine, marks)
 }
@@ -76,8 +76,8 @@ fn index(v: u16) -> usize
 
 // The uncommitted rows of row i's page, whose chain begins with row i.
 fn chain_apart(t: &[u8], m: usize, i: usize, after: &[u16; 512], marks: &mut [u16; 4096]) -> bool
-    requires { ⌜ (m * 19 ≤ length (now t)) × (m ≤ 512) × (i < m) × (every bounded (rows 19 m (now t) 0) ≡ true) × Chain (now t) m (now after) 0 i (keep (openOn (pageOf (rowAt 19 (now t) i))) (rows 19 m (now t) 0)) ⌝ }
-    ensures { λ r. ⌜ (r ≡ freeRows (i * 64) (now (marks .entry)) (keep (openOn (pageOf (rowAt 19 (now (t .entry)) i))) (rows 19 m (now (t .entry)) 0))) × (r ≡ true → now (marks .exit) ≡ withRows (i * 64) (now (marks .entry)) (keep (openOn (pageOf (rowAt 19 (now (t .entry)) i))) (rows 19 m (now (t .entry)) 0))) ⌝ }
+    requires { ⌜ (m * onlineWidth ≤ length (now t)) × (m ≤ 512) × (i < m) × (every bounded (rows onlineWidth m (now t) 0) ≡ true) × Chain (now t) m (now after) 0 i (keep (openOn (pageOf (rowAt onlineWidth (now t) i))) (rows onlineWidth m (now t) 0)) ⌝ }
+    ensures { λ r. ⌜ (r ≡ freeRows (i * 64) (now (marks .entry)) (keep (openOn (pageOf (rowAt onlineWidth (now (t .entry)) i))) (rows onlineWidth m (now (t .entry)) 0))) × (r ≡ true → now (marks .exit) ≡ withRows (i * 64) (now (marks .entry)) (keep (openOn (pageOf (rowAt onlineWidth (now (t .entry)) i))) (rows onlineWidth m (now (t .entry)) 0))) ⌝ }
 {
     let base = (i * 64) as u16;
     let mut j = i;
@@ -100,14 +100,14 @@ fn row_apart(
     after: &[u16; 512],
     marks: &mut [u16; 4096],
 ) -> bool
-    requires { ⌜ (m * 19 ≤ length (now t)) × (m ≤ 512) × (i < m) × (every (pageBelow 1024) (rows 19 m (now t) 0) ≡ true) × (every bounded (rows 19 m (now t) 0) ≡ true) × Linked (now t) m 0 (now heads) (now after) × Passed (now t) m i (now heads) (now marks) ⌝ }
-    ensures { λ r. ⌜ (r ≡ true → Passed (now (t .entry)) m (i + 1) (now (heads .entry)) (now (marks .exit))) × (r ≡ false → pairs apart (rows 19 m (now (t .entry)) 0) ≡ false) ⌝ }
+    requires { ⌜ (m * onlineWidth ≤ length (now t)) × (m ≤ 512) × (i < m) × (every (pageBelow 1024) (rows onlineWidth m (now t) 0) ≡ true) × (every bounded (rows onlineWidth m (now t) 0) ≡ true) × Linked (now t) m 0 (now heads) (now after) × Passed (now t) m i (now heads) (now marks) ⌝ }
+    ensures { λ r. ⌜ (r ≡ true → Passed (now (t .entry)) m (i + 1) (now (heads .entry)) (now (marks .exit))) × (r ≡ false → pairs apart (rows onlineWidth m (now (t .entry)) 0) ≡ false) ⌝ }
 {
     let next = index(after[i]);
     if m <= next {
         return true;
     }
-    let p = record::page_of(t, 19, i);
+    let p = record::page_of(t, record::ONLINE_WIDTH, i);
     let at = p.0;
     let head = index(heads[at]);
     if head != i {
@@ -123,8 +123,8 @@ fn rows_apart(
     after: &[u16; 512],
     marks: &mut [u16; 4096],
 ) -> bool
-    requires { ⌜ (m * 19 ≤ length (now t)) × (m ≤ 512) × (every (pageBelow 1024) (rows 19 m (now t) 0) ≡ true) × (every bounded (rows 19 m (now t) 0) ≡ true) × Linked (now t) m 0 (now heads) (now after) × Passed (now t) m 0 (now heads) (now marks) ⌝ }
-    ensures { λ r. ⌜ r ≡ pairs apart (rows 19 m (now (t .entry)) 0) ⌝ }
+    requires { ⌜ (m * onlineWidth ≤ length (now t)) × (m ≤ 512) × (every (pageBelow 1024) (rows onlineWidth m (now t) 0) ≡ true) × (every bounded (rows onlineWidth m (now t) 0) ≡ true) × Linked (now t) m 0 (now heads) (now after) × Passed (now t) m 0 (now heads) (now marks) ⌝ }
+    ensures { λ r. ⌜ r ≡ pairs apart (rows onlineWidth m (now (t .entry)) 0) ⌝ }
 {
     let mut i = 0;
     while i < m {
@@ -138,8 +138,8 @@ fn rows_apart(
 
 // 512 is no row's index.
 fn by_pages(t: &[u8], m: usize) -> bool
-    requires { ⌜ (m * 19 ≤ length (now t)) × (m ≤ 512) × (every (pageBelow 1024) (rows 19 m (now t) 0) ≡ true) × (every bounded (rows 19 m (now t) 0) ≡ true) ⌝ }
-    ensures { λ r. ⌜ r ≡ pairs apart (rows 19 m (now (t .entry)) 0) ⌝ }
+    requires { ⌜ (m * onlineWidth ≤ length (now t)) × (m ≤ 512) × (every (pageBelow 1024) (rows onlineWidth m (now t) 0) ≡ true) × (every bounded (rows onlineWidth m (now t) 0) ≡ true) ⌝ }
+    ensures { λ r. ⌜ r ≡ pairs apart (rows onlineWidth m (now (t .entry)) 0) ⌝ }
 {
     let mut heads = [512u16; 1024];
     let mut after = [512u16; 512];
@@ -150,8 +150,8 @@ fn by_pages(t: &[u8], m: usize) -> bool
 
 // No uncommitted row is of another owner than the last that was seen; 0 while none was.
 fn one_owner(t: &[u8], m: usize) -> bool
-    requires { ⌜ m * 19 ≤ length (now t) ⌝ }
-    ensures { λ r. ⌜ (r ≡ true → pairs apart (rows 19 m (now (t .entry)) 0) ≡ true) ⌝ }
+    requires { ⌜ m * onlineWidth ≤ length (now t) ⌝ }
+    ensures { λ r. ⌜ (r ≡ true → pairs apart (rows onlineWidth m (now (t .entry)) 0) ≡ true) ⌝ }
 {
     let mut mine = 0u8;
     let mut i = m;
@@ -170,8 +170,8 @@ fn one_owner(t: &[u8], m: usize) -> bool
 
 // The rows of one owner clash with none, so chains and marks are for two owners or more, and pay once rows are many.
 pub fn all_apart(t: &[u8], m: usize) -> bool
-    requires { ⌜ (m * 19 ≤ length (now t)) × (m ≤ 512) × (every (pageBelow 1024) (rows 19 m (now t) 0) ≡ true) × (every bounded (rows 19 m (now t) 0) ≡ true) ⌝ }
-    ensures { λ r. ⌜ r ≡ pairs apart (rows 19 m (now (t .entry)) 0) ⌝ }
+    requires { ⌜ (m * onlineWidth ≤ length (now t)) × (m ≤ 512) × (every (pageBelow 1024) (rows onlineWidth m (now t) 0) ≡ true) × (every bounded (rows onlineWidth m (now t) 0) ≡ true) ⌝ }
+    ensures { λ r. ⌜ r ≡ pairs apart (rows onlineWidth m (now (t .entry)) 0) ⌝ }
 {
     if one_owner(t, m) {
         return true;

@@ -6,6 +6,8 @@ ghost use lib.ListN.{length};
 ghost use Rattle.record.specs.Rows.{rowAt, rows};
 ghost use Rattle.rules.specs.Sound.{every};
 ghost use Rattle.durable.specs.Limits.{placesOf, mostValues};
+ghost use Rattle.record.specs.Record.{onlineWidth, logWidth};
+ghost use Rattle.rules.specs.Lent.{orderAt, marksLength};
 ghost use Rattle.onlinecheck.specs.Online.{rowTest};
 use super::logged;
 use super::owned;
@@ -25,10 +27,10 @@ fn is_sound(
     places: &[usize; 9],
     most: &[u64; 9],
 ) -> bool
-    requires { ⌜ (i * 19 + 19 ≤ length (now t)) × (n * 14 ≤ length (now log)) × (n ≤ last) × (last < 4294967296) × (length (now marks) ≡ 12 + 8 * pages) × (35 ≤ length (now tables)) × (now places ≡ placesOf size) × (now most ≡ mostValues) ⌝ }
-    ensures { λ r. ⌜ r ≡ rowTest (now (tables .entry)) (now (log .entry)) (now (marks .entry)) size pages last (last - n + 1) (rowAt 19 (now (t .entry)) i) ⌝ }
+    requires { ⌜ (i * onlineWidth + onlineWidth ≤ length (now t)) × (n * logWidth ≤ length (now log)) × (n ≤ last) × (last < 4294967296) × (length (now marks) ≡ marksLength pages) × (orderAt ≤ length (now tables)) × (now places ≡ placesOf size) × (now most ≡ mostValues) ⌝ }
+    ensures { λ r. ⌜ r ≡ rowTest (now (tables .entry)) (now (log .entry)) (now (marks .entry)) size pages last (last - n + 1) (rowAt onlineWidth (now (t .entry)) i) ⌝ }
 {
-    if !durable::well_formed(t, 19, i, size, pages, places, most) {
+    if !durable::well_formed(t, record::ONLINE_WIDTH, i, size, pages, places, most) {
         return false;
     }
     if !owned::is_owned(t, i, tables, last) {
@@ -51,8 +53,8 @@ pub fn all_sound(
     pages: usize,
     last: u64,
 ) -> bool
-    requires { ⌜ (m * 19 ≤ length (now t)) × (n * 14 ≤ length (now log)) × (n ≤ last) × (last < 4294967296) × (length (now marks) ≡ 12 + 8 * pages) × (35 ≤ length (now tables)) × (8 ≤ size) ⌝ }
-    ensures { λ r. ⌜ r ≡ every (rowTest (now (tables .entry)) (now (log .entry)) (now (marks .entry)) size pages last (last - n + 1)) (rows 19 m (now (t .entry)) 0) ⌝ }
+    requires { ⌜ (m * onlineWidth ≤ length (now t)) × (n * logWidth ≤ length (now log)) × (n ≤ last) × (last < 4294967296) × (length (now marks) ≡ marksLength pages) × (orderAt ≤ length (now tables)) × (8 ≤ size) ⌝ }
+    ensures { λ r. ⌜ r ≡ every (rowTest (now (tables .entry)) (now (log .entry)) (now (marks .entry)) size pages last (last - n + 1)) (rows onlineWidth m (now (t .entry)) 0) ⌝ }
 {
     let places = durable::places_of(size);
     let most = durable::most_values();

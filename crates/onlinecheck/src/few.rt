@@ -3,28 +3,28 @@ ghost use mathlib.Core.Path.{_≡_};
 ghost use Prim.Native.Nat.{_+_, _*_, _-_, _≤_, _<_};
 ghost use lib.ListN.{length};
 ghost use Rattle.record.specs.Rows.{rowAt, rows};
-ghost use Rattle.record.specs.Record.{shareByte};
+ghost use Rattle.record.specs.Record.{onlineWidth, shareByte};
 ghost use Rattle.rules.specs.Sound.{every, pairs, apart};
 
 fn share(t: &[u8], i: usize, j: usize) -> bool
-    requires { ⌜ (i * 19 + 19 ≤ length (now t)) × (j * 19 + 19 ≤ length (now t)) ⌝ }
-    ensures { λ r. ⌜ r ≡ shareByte (rowAt 19 (now (t .entry)) i) (rowAt 19 (now (t .entry)) j) ⌝ }
+    requires { ⌜ (i * onlineWidth + onlineWidth ≤ length (now t)) × (j * onlineWidth + onlineWidth ≤ length (now t)) ⌝ }
+    ensures { λ r. ⌜ r ≡ shareByte (rowAt onlineWidth (now (t .entry)) i) (rowAt onlineWidth (now (t .entry)) j) ⌝ }
 {
-    let p = record::page_of(t, 19, i);
-    let q = record::page_of(t, 19, j);
+    let p = record::page_of(t, record::ONLINE_WIDTH, i);
+    let q = record::page_of(t, record::ONLINE_WIDTH, j);
     if p.0 != q.0 {
         return false;
     }
-    let a = record::offset_of(t, 19, i);
-    let b = record::offset_of(t, 19, j);
-    let k = record::length_of(t, 19, i);
-    let l = record::length_of(t, 19, j);
+    let a = record::offset_of(t, record::ONLINE_WIDTH, i);
+    let b = record::offset_of(t, record::ONLINE_WIDTH, j);
+    let k = record::length_of(t, record::ONLINE_WIDTH, i);
+    let l = record::length_of(t, record::ONLINE_WIDTH, j);
     (a < b + l) & (b < a + k)
 }
 
 fn is_apart(t: &[u8], i: usize, j: usize) -> bool
-    requires { ⌜ (i * 19 + 19 ≤ length (now t)) × (j * 19 + 19 ≤ length (now t)) ⌝ }
-    ensures { λ r. ⌜ r ≡ apart (rowAt 19 (now (t .entry)) i) (rowAt 19 (now (t .entry)) j) ⌝ }
+    requires { ⌜ (i * onlineWidth + onlineWidth ≤ length (now t)) × (j * onlineWidth + onlineWidth ≤ length (now t)) ⌝ }
+    ensures { λ r. ⌜ r ≡ apart (rowAt onlineWidth (now (t .entry)) i) (rowAt onlineWidth (now (t .entry)) j) ⌝ }
 {
     let x = record::owner_of(t, i);
     let y = record::owner_of(t, j);
@@ -36,8 +36,8 @@ fn is_apart(t: &[u8], i: usize, j: usize) -> bool
 
 // Row i and each later row; one that is committed is apart from all.
 fn apart_after(t: &[u8], i: usize, m: usize) -> bool
-    requires { ⌜ (i < m) × (m * 19 ≤ length (now t)) ⌝ }
-    ensures { λ r. ⌜ r ≡ every (apart (rowAt 19 (now (t .entry)) i)) (rows 19 (m - (i + 1)) (now (t .entry)) (i + 1)) ⌝ }
+    requires { ⌜ (i < m) × (m * onlineWidth ≤ length (now t)) ⌝ }
+    ensures { λ r. ⌜ r ≡ every (apart (rowAt onlineWidth (now (t .entry)) i)) (rows onlineWidth (m - (i + 1)) (now (t .entry)) (i + 1)) ⌝ }
 {
     let x = record::owner_of(t, i);
     if x == 0 {
@@ -54,8 +54,8 @@ fn apart_after(t: &[u8], i: usize, m: usize) -> bool
 }
 
 pub fn all_apart_few(t: &[u8], m: usize) -> bool
-    requires { ⌜ m * 19 ≤ length (now t) ⌝ }
-    ensures { λ r. ⌜ r ≡ pairs apart (rows 19 m (now (t .entry)) 0) ⌝ }
+    requires { ⌜ m * onlineWidth ≤ length (now t) ⌝ }
+    ensures { λ r. ⌜ r ≡ pairs apart (rows onlineWidth m (now (t .entry)) 0) ⌝ }
 {
     let mut i = 0;
     while i < m {

@@ -6,8 +6,9 @@ ghost use Prim.Native.Nat.{_+_, _*_, _-_, _≤_, _<_};
 ghost use lib.ListN.{length, drop};
 ghost use Rattle.record.specs.Part.{part};
 ghost use Rattle.record.specs.Rows.{rows};
-ghost use Rattle.record.specs.Record.{wellFormed};
+ghost use Rattle.record.specs.Record.{onlineWidth, logWidth, wellFormed};
 ghost use Rattle.rules.specs.Sound.{every, pairs, upTo, zeros, apart};
+ghost use Rattle.rules.specs.Lent.{orderAt, marksLength};
 ghost use Rattle.rules.specs.Shape.{pageBelow};
 ghost use Rattle.onlinecheck.specs.Online.{owningIn, inLog, pastStamp, otherNumber, entryAgrees, onlineTest};
 ghost use Rattle.onlinecheck.specs.Marks.{slotted};
@@ -34,14 +35,14 @@ fn sound_rows(
     pages: usize,
     last: u64,
 ) -> bool
-    requires { ⌜ (m * 19 ≤ length (now online)) × (n * 14 ≤ length (now log)) × (n ≤ last) × (last < 4294967296) × (length (now marks) ≡ 12 + 8 * pages) × (35 ≤ length (now tables)) × (8 ≤ size) ⌝ }
-    ensures { λ r. ⌜ r ≡ (every (wellFormed size pages) (rows 19 m (now (online .entry)) 0) && every (owningIn (now (tables .entry)) last) (rows 19 m (now (online .entry)) 0) && zeros (drop (m * 19) (now (online .entry))) && every (inLog (now (log .entry)) (last - n + 1)) (rows 19 m (now (online .entry)) 0) && every (pastStamp (now (marks .entry))) (rows 19 m (now (online .entry)) 0)) ⌝ }
+    requires { ⌜ (m * onlineWidth ≤ length (now online)) × (n * logWidth ≤ length (now log)) × (n ≤ last) × (last < 4294967296) × (length (now marks) ≡ marksLength pages) × (orderAt ≤ length (now tables)) × (8 ≤ size) ⌝ }
+    ensures { λ r. ⌜ r ≡ (every (wellFormed size pages) (rows onlineWidth m (now (online .entry)) 0) && every (owningIn (now (tables .entry)) last) (rows onlineWidth m (now (online .entry)) 0) && zeros (drop (m * onlineWidth) (now (online .entry))) && every (inLog (now (log .entry)) (last - n + 1)) (rows onlineWidth m (now (online .entry)) 0) && every (pastStamp (now (marks .entry))) (rows onlineWidth m (now (online .entry)) 0)) ⌝ }
 {
     if !each::all_sound(online, m, log, n, marks, tables, size, pages, last) {
         return false;
     }
     // S14
-    let end = m * 19;
+    let end = m * record::ONLINE_WIDTH;
     durable::all_zero(&online[end..])
 }
 
@@ -54,8 +55,8 @@ fn sound_ties(
     pages: usize,
     frames: usize,
 ) -> bool
-    requires { ⌜ (m * 19 ≤ length (now online)) × (length (now tables) ≡ 35 + frames + pages) × (pages ≤ 1024) × (every (pageBelow pages) (rows 19 m (now online) 0) ≡ true) × (every (slotted first) (rows 19 m (now online) 0) ≡ true) × (m ≤ 512) × (every bounded (rows 19 m (now online) 0) ≡ true) ⌝ }
-    ensures { λ r. ⌜ r ≡ (pairs otherNumber (rows 19 m (now (online .entry)) 0) && upTo (entryAgrees (part (35 + frames) pages (now (tables .entry))) (rows 19 m (now (online .entry)) 0)) pages 0 && pairs apart (rows 19 m (now (online .entry)) 0)) ⌝ }
+    requires { ⌜ (m * onlineWidth ≤ length (now online)) × (length (now tables) ≡ orderAt + frames + pages) × (pages ≤ 1024) × (every (pageBelow pages) (rows onlineWidth m (now online) 0) ≡ true) × (every (slotted first) (rows onlineWidth m (now online) 0) ≡ true) × (m ≤ 512) × (every bounded (rows onlineWidth m (now online) 0) ≡ true) ⌝ }
+    ensures { λ r. ⌜ r ≡ (pairs otherNumber (rows onlineWidth m (now (online .entry)) 0) && upTo (entryAgrees (part (orderAt + frames) pages (now (tables .entry))) (rows onlineWidth m (now (online .entry)) 0)) pages 0 && pairs apart (rows onlineWidth m (now (online .entry)) 0)) ⌝ }
 {
     if !once::all_once(online, m, first) {
         return false;
@@ -79,7 +80,7 @@ pub fn sound_online(
     frames: usize,
     last: u64,
 ) -> bool
-    requires { ⌜ (m * 19 ≤ length (now online)) × (n * 14 ≤ length (now log)) × (n ≤ last) × (last < 4294967296) × (length (now marks) ≡ 12 + 8 * pages) × (length (now tables) ≡ 35 + frames + pages) × (pages ≤ 1024) × (frames ≤ 64) × (size ≤ 4096) × (m ≤ 512) × (n ≤ 2048) × (8 ≤ size) ⌝ }
+    requires { ⌜ (m * onlineWidth ≤ length (now online)) × (n * logWidth ≤ length (now log)) × (n ≤ last) × (last < 4294967296) × (length (now marks) ≡ marksLength pages) × (length (now tables) ≡ orderAt + frames + pages) × (pages ≤ 1024) × (frames ≤ 64) × (size ≤ 4096) × (m ≤ 512) × (n ≤ 2048) × (8 ≤ size) ⌝ }
     ensures { λ r. ⌜ r ≡ onlineTest (now (online .entry)) m (now (log .entry)) n (now (marks .entry)) (now (tables .entry)) size pages frames last ⌝ }
 {
     if !sound_rows(online, m, log, n, marks, tables, size, pages, last) {

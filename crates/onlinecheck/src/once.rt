@@ -5,13 +5,14 @@ ghost use Prim.Native.Nat.{_+_, _*_, _≤_};
 ghost use lib.ListN.{length};
 ghost use Rattle.record.specs.Rows.{rowAt, rows};
 ghost use Rattle.rules.specs.Sound.{every, pairs};
+ghost use Rattle.record.specs.Record.{onlineWidth};
 ghost use Rattle.onlinecheck.specs.Online.{otherNumber};
 ghost use Rattle.onlinecheck.specs.Marks.{slotted, unmarked, withNumber, allUnmarked};
 
 // The number of row i is not marked yet, and is marked from now on.
 fn take_number(t: &[u8], i: usize, first: u64, marks: &mut [u8; 2048]) -> bool
-    requires { ⌜ (i * 19 + 19 ≤ length (now t)) × (slotted first (rowAt 19 (now t) i) ≡ true) ⌝ }
-    ensures { λ r. ⌜ (r ≡ unmarked first (now (marks .entry)) (rowAt 19 (now (t .entry)) i)) × (now (marks .exit) ≡ withNumber first (now (marks .entry)) (rowAt 19 (now (t .entry)) i)) ⌝ }
+    requires { ⌜ (i * onlineWidth + onlineWidth ≤ length (now t)) × (slotted first (rowAt onlineWidth (now t) i) ≡ true) ⌝ }
+    ensures { λ r. ⌜ (r ≡ unmarked first (now (marks .entry)) (rowAt onlineWidth (now (t .entry)) i)) × (now (marks .exit) ≡ withNumber first (now (marks .entry)) (rowAt onlineWidth (now (t .entry)) i)) ⌝ }
 {
     let k = record::number_of(t, i);
     if k.0 == 0 {
@@ -24,8 +25,8 @@ fn take_number(t: &[u8], i: usize, first: u64, marks: &mut [u8; 2048]) -> bool
 }
 
 fn all_free(t: &[u8], m: usize, first: u64, marks: &mut [u8; 2048]) -> bool
-    requires { ⌜ (m * 19 ≤ length (now t)) × (every (slotted first) (rows 19 m (now t) 0) ≡ true) ⌝ }
-    ensures { λ r. ⌜ r ≡ allUnmarked first (rows 19 m (now (t .entry)) 0) (now (marks .entry)) ⌝ }
+    requires { ⌜ (m * onlineWidth ≤ length (now t)) × (every (slotted first) (rows onlineWidth m (now t) 0) ≡ true) ⌝ }
+    ensures { λ r. ⌜ r ≡ allUnmarked first (rows onlineWidth m (now (t .entry)) 0) (now (marks .entry)) ⌝ }
 {
     let mut i = 0;
     while i < m {
@@ -38,8 +39,8 @@ fn all_free(t: &[u8], m: usize, first: u64, marks: &mut [u8; 2048]) -> bool
 }
 
 pub fn all_once(t: &[u8], m: usize, first: u64) -> bool
-    requires { ⌜ (m * 19 ≤ length (now t)) × (every (slotted first) (rows 19 m (now t) 0) ≡ true) ⌝ }
-    ensures { λ r. ⌜ r ≡ pairs otherNumber (rows 19 m (now (t .entry)) 0) ⌝ }
+    requires { ⌜ (m * onlineWidth ≤ length (now t)) × (every (slotted first) (rows onlineWidth m (now t) 0) ≡ true) ⌝ }
+    ensures { λ r. ⌜ r ≡ pairs otherNumber (rows onlineWidth m (now (t .entry)) 0) ⌝ }
 {
     let mut marks = [0u8; 2048];
     all_free(t, m, first, &mut marks)

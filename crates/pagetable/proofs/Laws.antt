@@ -10,9 +10,9 @@ use borrow.Author.Tests.{leb-true}
 use Rattle.word.specs.Word.{num}
 use Rattle.word.proofs.Tests.{and-both, and-six}
 use Rattle.record.specs.Part.{part}
-use Rattle.rules.specs.Lent.{Lent, pagesOf, framesOf, onlineSizeOf}
+use Rattle.rules.specs.Lent.{usedIn, orderIn, entriesIn, Lent, pagesOf, framesOf, onlineSizeOf}
 use Rattle.rules.specs.Sound.{every, upTo, zeros, serving, times, s3-counts, s20-live, s4-entries, s5-frame-once, s6-order, s14-order-zero}
-use Rattle.pagetable.specs.Test.{usedIn, orderIn, entriesIn, tablesTest}
+use Rattle.pagetable.specs.Test.{tablesTest}
 
 -- the test is the six sentences, in their order
 pub tables-is : (s : Lent) → tablesTest (s .lost .tables) (pagesOf s) (framesOf s) (onlineSizeOf s) ≡ (s3-counts s && s20-live s && s4-entries s && s5-frame-once s && s6-order s && s14-order-zero s)

@@ -4,9 +4,9 @@ ghost use mathlib.Core.Bool.{true, false, _&&_};
 ghost use Prim.Native.Nat.{ℕ, _+_, _-_, _/_, _≤_, _<_};
 ghost use lib.ListN.{length, getD};
 ghost use lib.Dec.{eqb, leb, ltb};
-ghost use Rattle.word.specs.Word.{num};
 ghost use Rattle.record.specs.Part.{part};
 ghost use Rattle.rules.specs.Sound.{every, upTo, zeros, serving, times};
+ghost use Rattle.rules.specs.Lent.{orderAt, usedIn, countIn};
 ghost use Rattle.pagetable.specs.Test.{tablesTest};
 ghost use Rattle.pagetable.specs.Tally.{Tallied};
 
@@ -97,68 +97,68 @@ fn frames_agree(entries: &[u8], order: &[u8], frames: usize) -> bool
 
 fn counts_within(tables: &[u8], frames: usize, room: usize) -> bool
     requires { ⌜ 3 ≤ length (now tables) ⌝ }
-    ensures { λ r. ⌜ r ≡ (leb (num 2 (now (tables .entry)) 0) room && leb (getD (now (tables .entry)) 2 0) frames) ⌝ }
+    ensures { λ r. ⌜ r ≡ (leb (countIn (now (tables .entry))) room && leb (usedIn (now (tables .entry))) frames) ⌝ }
 {
-    let m = word::load(tables, 0, 2) as usize;
-    let u = word::wide(tables[2]) as usize;
+    let m = word::load(tables, layout::COUNT_AT, 2) as usize;
+    let u = word::wide(tables[layout::USED_AT]) as usize;
     (m <= room) & (u <= frames)
 }
 
 // The live set, one byte a transaction.
 fn live_marked(tables: &[u8]) -> bool
-    requires { ⌜ 35 ≤ length (now tables) ⌝ }
+    requires { ⌜ orderAt ≤ length (now tables) ⌝ }
     ensures { λ r. ⌜ r ≡ every (λ (b : ℕ). leb b 1) (part 3 32 (now (tables .entry))) ⌝ }
 {
-    all_below(&tables[3..35], 2)
+    all_below(&tables[layout::LIVES_AT..layout::ORDER_AT], 2)
 }
 
 // No entry names a frame that is not there.
 fn entries_within(tables: &[u8], pages: usize, frames: usize) -> bool
-    requires { ⌜ (length (now tables) ≡ 35 + frames + pages) × (frames ≤ 64) ⌝ }
-    ensures { λ r. ⌜ r ≡ every (λ (e : ℕ). leb (e / 2) frames) (part (35 + frames) pages (now (tables .entry))) ⌝ }
+    requires { ⌜ (length (now tables) ≡ orderAt + frames + pages) × (frames ≤ 64) ⌝ }
+    ensures { λ r. ⌜ r ≡ every (λ (e : ℕ). leb (e / 2) frames) (part (orderAt + frames) pages (now (tables .entry))) ⌝ }
 {
-    let a = 35 + frames;
+    let a = layout::ORDER_AT + frames;
     all_below(&tables[a..], (2 * frames + 2) as u8)
 }
 
 // Neither does a place of the order.
 fn order_within(tables: &[u8], frames: usize, u: usize) -> bool
-    requires { ⌜ (35 + u ≤ length (now tables)) × (u ≤ frames) × (frames ≤ 64) ⌝ }
-    ensures { λ r. ⌜ r ≡ every (λ (f : ℕ). ltb f frames) (part 35 u (now (tables .entry))) ⌝ }
+    requires { ⌜ (orderAt + u ≤ length (now tables)) × (u ≤ frames) × (frames ≤ 64) ⌝ }
+    ensures { λ r. ⌜ r ≡ every (λ (f : ℕ). ltb f frames) (part orderAt u (now (tables .entry))) ⌝ }
 {
-    let e = 35 + u;
-    all_below(&tables[35..e], frames as u8)
+    let e = layout::ORDER_AT + u;
+    all_below(&tables[layout::ORDER_AT..e], frames as u8)
 }
 
 // The places that are not in use are zero.
 fn tail_clear(tables: &[u8], frames: usize, u: usize) -> bool
-    requires { ⌜ (35 + frames ≤ length (now tables)) × (u ≤ frames) × (frames ≤ 64) ⌝ }
-    ensures { λ r. ⌜ r ≡ zeros (part (35 + u) (frames - u) (now (tables .entry))) ⌝ }
+    requires { ⌜ (orderAt + frames ≤ length (now tables)) × (u ≤ frames) × (frames ≤ 64) ⌝ }
+    ensures { λ r. ⌜ r ≡ zeros (part (orderAt + u) (frames - u) (now (tables .entry))) ⌝ }
 {
-    let a = 35 + u;
-    let e = 35 + frames;
+    let a = layout::ORDER_AT + u;
+    let e = layout::ORDER_AT + frames;
     all_below(&tables[a..e], 1)
 }
 
 // No frame serves two pages, and the order names each that serves as often as it serves.
 fn frames_served(tables: &[u8], pages: usize, frames: usize, u: usize) -> bool
-    requires { ⌜ (length (now tables) ≡ 35 + frames + pages) × (pages ≤ 1024) × (frames ≤ 64) × (u ≤ frames) ⌝ }
-    ensures { λ r. ⌜ r ≡ (upTo (λ (f : ℕ). leb (serving f (part (35 + frames) pages (now (tables .entry)))) 1) frames 0 && upTo (λ (f : ℕ). eqb (times f (part 35 u (now (tables .entry)))) (serving f (part (35 + frames) pages (now (tables .entry))))) frames 0) ⌝ }
+    requires { ⌜ (length (now tables) ≡ orderAt + frames + pages) × (pages ≤ 1024) × (frames ≤ 64) × (u ≤ frames) ⌝ }
+    ensures { λ r. ⌜ r ≡ (upTo (λ (f : ℕ). leb (serving f (part (orderAt + frames) pages (now (tables .entry)))) 1) frames 0 && upTo (λ (f : ℕ). eqb (times f (part orderAt u (now (tables .entry)))) (serving f (part (orderAt + frames) pages (now (tables .entry))))) frames 0) ⌝ }
 {
-    let e = 35 + u;
-    let a = 35 + frames;
-    frames_agree(&tables[a..], &tables[35..e], frames)
+    let e = layout::ORDER_AT + u;
+    let a = layout::ORDER_AT + frames;
+    frames_agree(&tables[a..], &tables[layout::ORDER_AT..e], frames)
 }
 
 // The `tables` area is sound, as far as it alone decides that.
 pub fn sound_tables(tables: &[u8], pages: usize, frames: usize, room: usize) -> bool
-    requires { ⌜ (length (now tables) ≡ 35 + frames + pages) × (pages ≤ 1024) × (frames ≤ 64) ⌝ }
+    requires { ⌜ (length (now tables) ≡ orderAt + frames + pages) × (pages ≤ 1024) × (frames ≤ 64) ⌝ }
     ensures { λ r. ⌜ r ≡ tablesTest (now (tables .entry)) pages frames room ⌝ }
 {
     if !counts_within(tables, frames, room) {
         return false;
     }
-    let u = word::wide(tables[2]) as usize;
+    let u = word::wide(tables[layout::USED_AT]) as usize;
     let marked = live_marked(tables);
     let entries = entries_within(tables, pages, frames);
     let order = order_within(tables, frames, u);

@@ -7,11 +7,18 @@ use lib.ListN.{length, getD, take, set, replicate}
 use lib.Dec.{eqb, leb, ltb}
 use Rattle.word.specs.Word.{num, put}
 
+-- bytes of a row: the record, and with its owner and number
 abbrev pub logWidth : ℕ
 logWidth = 14
 
 abbrev pub onlineWidth : ℕ
 onlineWidth = 19
+
+abbrev pub ownerAt : ℕ
+ownerAt = 14
+
+abbrev pub numberAt : ℕ
+numberAt = 15
 
 abbrev pub pageOf : List ℕ → ℕ
 pageOf r = num 2 r 0
@@ -31,17 +38,17 @@ valueOf r = num 8 r 6
 
 -- of an online row
 abbrev pub ownerOf : List ℕ → ℕ
-ownerOf r = getD r 14 0
+ownerOf r = getD r ownerAt 0
 
 abbrev pub numberOf : List ℕ → ℕ
-numberOf r = num 4 r 15
+numberOf r = num 4 r numberAt
 
 abbrev pub committed : List ℕ → Bool
 committed r = eqb (ownerOf r) 0
 
 -- the log's record of an online row
 abbrev pub bodyOf : List ℕ → List ℕ
-bodyOf r = take 14 r
+bodyOf r = take logWidth r
 
 -- "length (1, 2, 4 or 8)"
 unfoldable pub isLength : ℕ → Bool
@@ -70,15 +77,15 @@ applied (r ∷ rs) g = applied rs (apply r g)
 
 -- an online row of these fields
 unfoldable pub rowOf : ℕ → ℕ → ℕ → ℕ → ℕ → ℕ → List ℕ
-rowOf page offset w kind v owner = set (put 8 (set (set (put 2 (put 2 (replicate 19 0) 0 page) 2 offset) 4 w) 5 kind) 6 v) 14 owner
+rowOf page offset w kind v owner = set (put 8 (set (set (put 2 (put 2 (replicate onlineWidth 0) 0 page) 2 offset) 4 w) 5 kind) 6 v) ownerAt owner
 
 -- an online row that is committed under a number: "clears the owner"
 unfoldable pub numbered : List ℕ → ℕ → List ℕ
-numbered r k = put 4 (set r 14 0) 15 k
+numbered r k = put 4 (set r ownerAt 0) numberAt k
 
 -- the online row of a log record, committed under its number
 unfoldable pub entered : List ℕ → ℕ → List ℕ
-entered b k = put 4 (b ++ replicate 5 0) 15 k
+entered b k = put 4 (b ++ replicate 5 0) numberAt k
 
 -- the rows of a page; its committed ones; an owner's
 abbrev pub onPage : ℕ → List ℕ → Bool

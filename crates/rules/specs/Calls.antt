@@ -15,7 +15,7 @@ use Rattle.rules.specs.declared.Verdict.{Verdict}
 use Rattle.rules.specs.declared.Verdict.the-variants.{Go, Refuse}
 use Rattle.rules.specs.declared.Answer.{Answer}
 use Rattle.rules.specs.declared.Answer.the-variants.{Done, NotDue, Refused}
-use Rattle.rules.specs.Lent.{Lent, sizeOf, pagesOf, onlineSizeOf, logSizeOf, lastOf, loggedOf, countOf, liveAt, entryOf, onlineOf, inFrame}
+use Rattle.rules.specs.Lent.{fixedLength, Lent, sizeOf, pagesOf, onlineSizeOf, logSizeOf, lastOf, loggedOf, countOf, liveAt, entryOf, onlineOf, inFrame}
 use Rattle.rules.specs.Sound.{sound, soundDurable, between, inRange, exactLengths, apart}
 use Rattle.rules.specs.Steps.{Left, begun, readStep, readBytes, updated, owned, committing, aborted, evicted, due, compacted, closed, checkpointed, enteringAll, restarted, formatted}
 
@@ -207,7 +207,7 @@ unfoldable pub judgeFormat : Lent → Params → ℕ → Verdict
 judgeFormat s g last =
     verdictOf
     (Argument Parameter when not (inRange g && leb last 4294967295)
-    ∷ Argument LentLength when not (eqb (length (s .durable .fixed)) 20 && exactLengths s g)
+    ∷ Argument LentLength when not (eqb (length (s .durable .fixed)) fixedLength && exactLengths s g)
     ∷ [])
 
 unfoldable pub formatCall : Lent → Params → ℕ → Outcome

@@ -5,9 +5,9 @@ use mathlib.Core.Bool.{Bool, true}
 use mathlib.Core.List.{List}
 use lib.ListN.{length}
 use lib.Dec.{leb, ltb}
-use Rattle.record.specs.Record.{pageOf}
+use Rattle.record.specs.Record.{onlineWidth, logWidth, pageOf}
 use Rattle.rules.specs.declared.Params.{Params}
-use Rattle.rules.specs.Lent.{Lent, sizeOf, pagesOf, framesOf, onlineSizeOf, logSizeOf, loggedOf, countOf, usedOf, orderOf, entriesOf}
+use Rattle.rules.specs.Lent.{tablesLength, marksLength, fixedLength, Lent, sizeOf, pagesOf, framesOf, onlineSizeOf, logSizeOf, loggedOf, countOf, usedOf, orderOf, entriesOf}
 use Rattle.rules.specs.Sound.{every}
 
 -- a row's page is a page of the store
@@ -29,7 +29,7 @@ pub record Ranged (g : Params) : Type 0 where
 
 -- the parameters' ranges and the lengths of the areas
 pub record Sized (s : Lent) : Type 0 where
-  pub fixed : length (s .durable .fixed) ≡ 20
+  pub fixed : length (s .durable .fixed) ≡ fixedLength
   pub size-least : 512 ≤ sizeOf s
   pub size : sizeOf s ≤ 4096
   pub pages-least : 1 ≤ pagesOf s
@@ -38,11 +38,11 @@ pub record Sized (s : Lent) : Type 0 where
   pub frames : framesOf s ≤ 64
   pub online-size : onlineSizeOf s ≤ 512
   pub log-size : logSizeOf s ≤ 2048
-  pub marks : length (s .durable .marks) ≡ 12 + 8 * pagesOf s
-  pub log : length (s .durable .log) ≡ 14 * logSizeOf s
+  pub marks : length (s .durable .marks) ≡ marksLength (pagesOf s)
+  pub log : length (s .durable .log) ≡ logWidth * logSizeOf s
   pub stored : length (s .durable .stored) ≡ sizeOf s * pagesOf s
-  pub tables : length (s .lost .tables) ≡ 35 + framesOf s + pagesOf s
-  pub online : length (s .lost .online) ≡ 19 * onlineSizeOf s
+  pub tables : length (s .lost .tables) ≡ tablesLength (framesOf s) (pagesOf s)
+  pub online : length (s .lost .online) ≡ onlineWidth * onlineSizeOf s
   pub pool : length (s .lost .pool) ≡ sizeOf s * framesOf s
 
 -- with counts within sizes, entries and order that name frames

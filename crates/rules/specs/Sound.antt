@@ -7,9 +7,9 @@ use lib.Dec.{eqb, leb, ltb}
 use Rattle.word.specs.Word.{num}
 use Rattle.record.specs.Part.{part}
 use Rattle.record.specs.Rows.{rowAt, keep, any}
-use Rattle.record.specs.Record.{pageOf, ownerOf, numberOf, committed, bodyOf, onPage, wellFormed, free}
+use Rattle.record.specs.Record.{onlineWidth, logWidth, pageOf, ownerOf, numberOf, committed, bodyOf, onPage, wellFormed, free}
 use Rattle.rules.specs.declared.Params.{Params}
-use Rattle.rules.specs.Lent.{Lent, paramsOf, sizeOf, pagesOf, framesOf, onlineSizeOf, logSizeOf, lastOf, closedOf, loggedOf, stampOf, dirtyOf, firstOf, logOf, countOf, usedOf, liveOf, orderOf, entriesOf, onlineOf, isDirty}
+use Rattle.rules.specs.Lent.{Lent, fixedLength, marksLength, tablesLength, orderAt, paramsOf, sizeOf, pagesOf, framesOf, onlineSizeOf, logSizeOf, lastOf, closedOf, loggedOf, stampOf, dirtyOf, firstOf, logOf, countOf, usedOf, liveOf, orderOf, entriesOf, onlineOf, isDirty}
 
 module _ {A : Type 0} where
   -- each passes the test
@@ -44,12 +44,12 @@ inRange g = isPageSize (g .size) && between 1 (g .pages) 1024 && between 1 (g .f
 -- the lengths of the other areas for these parameters
 unfoldable pub exactLengths : Lent → Params → Bool
 exactLengths s g =
-    eqb (length (s .durable .marks)) (12 + 8 * g .pages) && eqb (length (s .durable .log)) (14 * g .log) && eqb (length (s .durable .stored)) (g .size * g .pages)
-    && eqb (length (s .lost .tables)) (35 + g .frames + g .pages) && eqb (length (s .lost .online)) (19 * g .online) && eqb (length (s .lost .pool)) (g .size * g .frames)
+    eqb (length (s .durable .marks)) (marksLength (g .pages)) && eqb (length (s .durable .log)) (logWidth * g .log) && eqb (length (s .durable .stored)) (g .size * g .pages)
+    && eqb (length (s .lost .tables)) (tablesLength (g .frames) (g .pages)) && eqb (length (s .lost .online)) (onlineWidth * g .online) && eqb (length (s .lost .pool)) (g .size * g .frames)
 
 -- S1 "parameters in range"
 unfoldable pub s1-parameters : Lent → Bool
-s1-parameters s = eqb (length (s .durable .fixed)) 20 && inRange (paramsOf s)
+s1-parameters s = eqb (length (s .durable .fixed)) fixedLength && inRange (paramsOf s)
 
 -- S2 "lent lengths exact"
 unfoldable pub s2-lengths : Lent → Bool
@@ -108,7 +108,7 @@ same (a ∷ k) (b ∷ l) = eqb a b && same k l
 
 -- S10 "each committed online record is the log's record of its number"
 unfoldable pub s10-in-log : Lent → Bool
-s10-in-log s = every (λ (r : List ℕ). not (committed r) || (leb (firstOf s) (numberOf r) && same (bodyOf r) (rowAt 14 (s .durable .log) (numberOf r - firstOf s)))) (onlineOf s)
+s10-in-log s = every (λ (r : List ℕ). not (committed r) || (leb (firstOf s) (numberOf r) && same (bodyOf r) (rowAt logWidth (s .durable .log) (numberOf r - firstOf s)))) (onlineOf s)
 
 -- S11 "above its page's stamp"
 unfoldable pub s11-above-stamp : Lent → Bool
@@ -131,13 +131,13 @@ s13-apart s = pairs apart (onlineOf s)
 
 -- S14 "rows past a count are zero"
 unfoldable pub s14-log-zero : Lent → Bool
-s14-log-zero s = zeros (drop (loggedOf s * 14) (s .durable .log))
+s14-log-zero s = zeros (drop (loggedOf s * logWidth) (s .durable .log))
 
 unfoldable pub s14-online-zero : Lent → Bool
-s14-online-zero s = zeros (drop (countOf s * 19) (s .lost .online))
+s14-online-zero s = zeros (drop (countOf s * onlineWidth) (s .lost .online))
 
 unfoldable pub s14-order-zero : Lent → Bool
-s14-order-zero s = zeros (part (35 + usedOf s) (framesOf s - usedOf s) (s .lost .tables))
+s14-order-zero s = zeros (part (orderAt + usedOf s) (framesOf s - usedOf s) (s .lost .tables))
 
 -- S15 "stamps and K are at most L", S16 "n at most L"
 unfoldable pub s15-stamps : Lent → Bool

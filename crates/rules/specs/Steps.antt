@@ -7,10 +7,10 @@ use lib.Dec.{eqb, leb}
 use Rattle.word.specs.Word.{num, put}
 use Rattle.record.specs.Part.{part, withPart}
 use Rattle.record.specs.Rows.{rows, table, consIf, keep, any}
-use Rattle.record.specs.Record.{pageOf, numberOf, committed, bodyOf, apply, applied, rowOf, entered, onPage, committedOn, ownedBy, numberRows, lesser, smallest, greatest}
+use Rattle.record.specs.Record.{onlineWidth, logWidth, pageOf, numberOf, committed, bodyOf, apply, applied, rowOf, entered, onPage, committedOn, ownedBy, numberRows, lesser, smallest, greatest}
 use Rattle.order.specs.Order.{without, touched, frameFor}
 use Rattle.rules.specs.declared.Params.{Params}
-use Rattle.rules.specs.Lent.{Lent, fixedOf, lentOf, sizeOf, pagesOf, framesOf, onlineSizeOf, logSizeOf, lastOf, closedOf, loggedOf, stampAt, dirtyAt, stampOf, dirtyOf, firstOf, logOf, countOf, liveAt, orderOf, entryAt, entryOf, entriesOf, onlineOf, inFrame, frameOf, isDirty, cleanIn, dirtyIn, pageIn, withPage, withOrder, withEntries, withCount}
+use Rattle.rules.specs.Lent.{Lent, lastAt, closedAt, loggedAt, fixedOf, lentOf, sizeOf, pagesOf, framesOf, onlineSizeOf, logSizeOf, lastOf, closedOf, loggedOf, stampAt, dirtyAt, stampOf, dirtyOf, firstOf, logOf, countOf, liveAt, orderOf, entryAt, entryOf, entriesOf, onlineOf, inFrame, frameOf, isDirty, cleanIn, dirtyIn, pageIn, withPage, withOrder, withEntries, withCount}
 
 -- the lent bytes with other tables, and so on
 abbrev pub lostNow : Lent → List ℕ → List ℕ → List ℕ → Lent
@@ -81,7 +81,7 @@ updateTables s p = withCount (countOf s + 1) (withOrder (framesOf s) (touched (p
 unfoldable pub updated : Lent → List ℕ → Left
 updated s r =
     left
-    (lostNow s (updateTables s (pageOf r)) (table 19 (onlineSizeOf s) (onlineOf s ++ (r ∷ []))) (withPage (sizeOf s) (placeOf s (pageOf r)) (fetchedPool s (pageOf r)) (apply r (pageIn (sizeOf s) (placeOf s (pageOf r)) (fetchedPool s (pageOf r))))))
+    (lostNow s (updateTables s (pageOf r)) (table onlineWidth (onlineSizeOf s) (onlineOf s ++ (r ∷ []))) (withPage (sizeOf s) (placeOf s (pageOf r)) (fetchedPool s (pageOf r)) (apply r (pageIn (sizeOf s) (placeOf s (pageOf r)) (fetchedPool s (pageOf r))))))
     (fetchReads s (pageOf r)) 0 0
 
 -- "Commit numbers the owner's k records L+1 to L+k in table order, appends them to the log, clears the owner, ends the transaction."
@@ -92,11 +92,11 @@ unfoldable pub committing : Lent → ℕ → Left
 committing s x =
     left
     (lentOf (s .durable .fixed)
-    (put 4 (put 4 (s .durable .marks) 0 (lastOf s + length (owned s x))) 8 (loggedOf s + length (owned s x)))
-    (table 14 (logSizeOf s) (logOf s ++ map bodyOf (owned s x)))
+    (put 4 (put 4 (s .durable .marks) lastAt (lastOf s + length (owned s x))) loggedAt (loggedOf s + length (owned s x)))
+    (table logWidth (logSizeOf s) (logOf s ++ map bodyOf (owned s x)))
     (s .durable .stored)
     (set (s .lost .tables) (liveAt x) 0)
-    (table 19 (onlineSizeOf s) (numberRows x (lastOf s + 1) (onlineOf s)))
+    (table onlineWidth (onlineSizeOf s) (numberRows x (lastOf s + 1) (onlineOf s)))
     (s .lost .pool))
     0 0 (cond (eqb (length (owned s x)) 0) 0 1)
 
@@ -119,7 +119,7 @@ aborted s x =
     left
     (lostNow s
     (set (withCount (length (others s x)) (withOrder (framesOf s) (framesFreed (framesOf s) (s .lost .tables) (owned s x) (orderOf s)) (judgedAnew (framesOf s) (others s x) (owned s x) (s .lost .tables)))) (liveAt x) 0)
-    (table 19 (onlineSizeOf s) (others s x))
+    (table onlineWidth (onlineSizeOf s) (others s x))
     (s .lost .pool))
     0 0 0
 
@@ -163,7 +163,7 @@ compacted s p =
     (s .durable .log)
     (withPage (sizeOf s) p (s .durable .stored) (compactedPage s p))
     (withCount (length (unfolded s p)) (withOrder (framesOf s) (compactedOrder s p) (set (s .lost .tables) (entryAt (framesOf s) p) (compactedEntry s p))))
-    (table 19 (onlineSizeOf s) (unfolded s p))
+    (table onlineWidth (onlineSizeOf s) (unfolded s p))
     (s .lost .pool))
     (cond (fromFrame s p) 0 1) 1 0
 
@@ -184,8 +184,8 @@ unfoldable pub closed : Lent → Left
 closed s =
     left
     (lentOf (s .durable .fixed)
-    (put 4 (put 4 (lowered (pagesOf s) (onlineOf s) (withPart (dirtyAt (pagesOf s) 0) (4 * pagesOf s) (s .durable .marks) (replicate (4 * pagesOf s) 0))) 4 (lastOf s)) 8 (loggedOf s - droppedBy s))
-    (table 14 (logSizeOf s) (drop (droppedBy s) (logOf s)))
+    (put 4 (put 4 (lowered (pagesOf s) (onlineOf s) (withPart (dirtyAt (pagesOf s) 0) (4 * pagesOf s) (s .durable .marks) (replicate (4 * pagesOf s) 0))) closedAt (lastOf s)) loggedAt (loggedOf s - droppedBy s))
+    (table logWidth (logSizeOf s) (drop (droppedBy s) (logOf s)))
     (s .durable .stored)
     (s .lost .tables) (s .lost .online) (s .lost .pool))
     0 0 1
@@ -227,7 +227,7 @@ restarted s =
     left
     (lostNow s
     (withCount (length (enteringAll s)) (evictedAll (framesOf s) (enteringAll s) (replicate (length (s .lost .tables)) 0)))
-    (table 19 (onlineSizeOf s) (enteringAll s))
+    (table onlineWidth (onlineSizeOf s) (enteringAll s))
     (s .lost .pool))
     0 0 0
 
@@ -241,7 +241,7 @@ formatted s g last =
     left
     (lentOf
     (fixedOf g)
-    (stamped (g .pages) 0 last (put 4 (put 4 (replicate (length (s .durable .marks)) 0) 0 last) 4 last))
+    (stamped (g .pages) 0 last (put 4 (put 4 (replicate (length (s .durable .marks)) 0) lastAt last) closedAt last))
     (replicate (length (s .durable .log)) 0)
     (s .durable .stored)
     (replicate (length (s .lost .tables)) 0)

@@ -3,27 +3,28 @@
 ghost use mathlib.Core.Path.{_≡_};
 ghost use mathlib.Core.Bool.{true, _&&_};
 ghost use Prim.Native.Nat.{_+_, _*_, _≤_, _<_};
-ghost use lib.ListN.{length, getD};
-ghost use Rattle.word.specs.Word.{num};
+ghost use lib.ListN.{length};
 ghost use Rattle.pagetable.specs.Test.{tablesTest};
 ghost use Rattle.onlinecheck.specs.Online.{onlineTest};
 ghost use Rattle.rules.specs.Areas.{areas, before};
 ghost use Rattle.rules.specs.Sound.{soundDurable, soundLost, sound};
+ghost use Rattle.record.specs.Record.{onlineWidth, logWidth};
+ghost use Rattle.rules.specs.Lent.{orderAt, marksLength, countIn, lastIn, loggedIn};
 use rules::Params;
 
 // The lost part, by the parameters that the durable part gave.
 fn lost_at(marks: &[u8], log: &[u8], tables: &[u8], online: &[u8], g: Params) -> bool
-    requires { ⌜ (g .size ≤ 4096) × (g .pages ≤ 1024) × (g .frames ≤ 64) × (g .online ≤ 512) × (g .log ≤ 2048) × (length (now marks) ≡ 12 + 8 * g .pages) × (length (now log) ≡ 14 * g .log) × (length (now tables) ≡ 35 + g .frames + g .pages) × (length (now online) ≡ 19 * g .online) × (num 4 (now marks) 8 ≤ g .log) × (num 4 (now marks) 8 ≤ num 4 (now marks) 0) × (8 ≤ g .size) ⌝ }
-    ensures { λ r. ⌜ r ≡ (tablesTest (now (tables .entry)) (g .pages) (g .frames) (g .online) && onlineTest (now (online .entry)) (num 2 (now (tables .entry)) 0) (now (log .entry)) (num 4 (now (marks .entry)) 8) (now (marks .entry)) (now (tables .entry)) (g .size) (g .pages) (g .frames) (num 4 (now (marks .entry)) 0)) ⌝ }
+    requires { ⌜ (g .size ≤ 4096) × (g .pages ≤ 1024) × (g .frames ≤ 64) × (g .online ≤ 512) × (g .log ≤ 2048) × (length (now marks) ≡ marksLength (g .pages)) × (length (now log) ≡ logWidth * g .log) × (length (now tables) ≡ orderAt + g .frames + g .pages) × (length (now online) ≡ onlineWidth * g .online) × (loggedIn (now marks) ≤ g .log) × (loggedIn (now marks) ≤ lastIn (now marks)) × (8 ≤ g .size) ⌝ }
+    ensures { λ r. ⌜ r ≡ (tablesTest (now (tables .entry)) (g .pages) (g .frames) (g .online) && onlineTest (now (online .entry)) (countIn (now (tables .entry))) (now (log .entry)) (loggedIn (now (marks .entry))) (now (marks .entry)) (now (tables .entry)) (g .size) (g .pages) (g .frames) (lastIn (now (marks .entry)))) ⌝ }
 {
     let pages = g.pages as usize;
     let frames = g.frames as usize;
     if !pagetable::sound_tables(tables, pages, frames, g.online as usize) {
         return false;
     }
-    let m = word::load(tables, 0, 2) as usize;
-    let n = word::load(marks, 8, 4) as usize;
-    let last = word::load(marks, 0, 4);
+    let m = word::load(tables, layout::COUNT_AT, 2) as usize;
+    let n = word::load(marks, layout::LOGGED_AT, 4) as usize;
+    let last = word::load(marks, layout::LAST_AT, 4);
     onlinecheck::sound_online(
         online,
         m,

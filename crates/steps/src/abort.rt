@@ -6,11 +6,13 @@ ghost use lib.ListN.{length, getD, set, replicate};
 ghost use lib.Dec.{eqb};
 ghost use Rattle.record.specs.Part.{part};
 ghost use Rattle.record.specs.Rows.{rowAt, rows, keep, any, table};
-ghost use Rattle.record.specs.Record.{pageOf, onPage, ownedBy};
+ghost use Rattle.record.specs.Record.{onlineWidth, pageOf, onPage, ownedBy};
 ghost use Rattle.order.specs.Meant.{listOf};
 ghost use Rattle.table.specs.Stays.{stays};
-ghost use Rattle.rules.specs.Lent.{liveAt, entryAt, withOrder, withCount};
-ghost use Rattle.rules.specs.Steps.{freedOf, framesFreed, judgedAnew};
+ghost use Rattle.rules.specs.Lent.{orderAt, usedIn, liveAt, entryAt, withOrder, withCount};
+ghost use Rattle.rules.specs.Areas.{areas, before, after};
+ghost use Rattle.rules.specs.Shape.{Shaped};
+ghost use Rattle.rules.specs.Steps.{freedOf, framesFreed, judgedAnew, aborted};
 ghost use Rattle.table.specs.Marks.{markPages};
 use number::FrameNo;
 use number::PageNo;
@@ -50,14 +52,14 @@ fn freed_order(e: u8, order: Order) -> Order
 
 // The order without the frame of row i's page, if the row is the owner's.
 fn free_row(tables: &[u8], online: &[u8], frames: usize, i: usize, owner: u8, order: Order) -> Order
-    requires { ⌜ (i * 19 + 19 ≤ length (now online)) × (frames ≤ 64) × (order .used ≤ 64) ⌝ }
-    ensures { λ r. ⌜ (listOf r ≡ cond (ownedBy owner (rowAt 19 (now (online .entry)) i)) (freedOf (getD (now (tables .entry)) (entryAt frames (pageOf (rowAt 19 (now (online .entry)) i))) 0) (listOf order)) (listOf order)) × (r .used ≤ 64) ⌝ }
+    requires { ⌜ (i * onlineWidth + onlineWidth ≤ length (now online)) × (frames ≤ 64) × (order .used ≤ 64) ⌝ }
+    ensures { λ r. ⌜ (listOf r ≡ cond (ownedBy owner (rowAt onlineWidth (now (online .entry)) i)) (freedOf (getD (now (tables .entry)) (entryAt frames (pageOf (rowAt onlineWidth (now (online .entry)) i))) 0) (listOf order)) (listOf order)) × (r .used ≤ 64) ⌝ }
 {
     if record::owner_of(online, i) != owner {
         return order;
     }
-    let p = record::page_of(online, 19, i);
-    freed_order(byte_at(tables, 35 + frames + p.0), order)
+    let p = record::page_of(online, record::ONLINE_WIDTH, i);
+    freed_order(byte_at(tables, layout::ORDER_AT + frames + p.0), order)
 }
 
 // The order without the frames of the pages of the owner's rows.
@@ -69,8 +71,8 @@ fn free_frames(
     owner: u8,
     order: Order,
 ) -> Order
-    requires { ⌜ (m * 19 ≤ length (now online)) × (frames ≤ 64) × (order .used ≤ 64) ⌝ }
-    ensures { λ r. ⌜ (listOf r ≡ framesFreed frames (now (tables .entry)) (keep (ownedBy owner) (rows 19 m (now (online .entry)) 0)) (listOf order)) × (r .used ≤ 64) ⌝ }
+    requires { ⌜ (m * onlineWidth ≤ length (now online)) × (frames ≤ 64) × (order .used ≤ 64) ⌝ }
+    ensures { λ r. ⌜ (listOf r ≡ framesFreed frames (now (tables .entry)) (keep (ownedBy owner) (rows onlineWidth m (now (online .entry)) 0)) (listOf order)) × (r .used ≤ 64) ⌝ }
 {
     let mut o = order;
     let mut i = 0;
@@ -83,20 +85,20 @@ fn free_frames(
 
 // A mark at row i's page, if the row stays. A page past the marks has none.
 fn mark_row(marks: &mut [u8], online: &[u8], owner: u8, i: usize)
-    requires { ⌜ i * 19 + 19 ≤ length (now online) ⌝ }
-    ensures { λ r. ⌜ now (marks .exit) ≡ cond (stays true owner 0 (rowAt 19 (now (online .entry)) i)) (set (now (marks .entry)) (pageOf (rowAt 19 (now (online .entry)) i)) 1) (now (marks .entry)) ⌝ }
+    requires { ⌜ i * onlineWidth + onlineWidth ≤ length (now online) ⌝ }
+    ensures { λ r. ⌜ now (marks .exit) ≡ cond (stays true owner 0 (rowAt onlineWidth (now (online .entry)) i)) (set (now (marks .entry)) (pageOf (rowAt onlineWidth (now (online .entry)) i)) 1) (now (marks .entry)) ⌝ }
 {
     if record::owner_of(online, i) == owner {
         return;
     }
-    let p = record::page_of(online, 19, i);
+    let p = record::page_of(online, record::ONLINE_WIDTH, i);
     set_byte(marks, p.0, 1);
 }
 
 // A mark at the page of each row that stays.
 fn mark_stays(marks: &mut [u8], online: &[u8], m: usize, owner: u8)
-    requires { ⌜ m * 19 ≤ length (now online) ⌝ }
-    ensures { λ r. ⌜ now (marks .exit) ≡ markPages (keep (stays true owner 0) (rows 19 m (now (online .entry)) 0)) (now (marks .entry)) ⌝ }
+    requires { ⌜ m * onlineWidth ≤ length (now online) ⌝ }
+    ensures { λ r. ⌜ now (marks .exit) ≡ markPages (keep (stays true owner 0) (rows onlineWidth m (now (online .entry)) 0)) (now (marks .entry)) ⌝ }
 {
     let mut i = 0;
     while i < m {
@@ -122,21 +124,21 @@ fn judge_row(
     marks: &[u8],
     i: usize,
 )
-    requires { ⌜ (m * 19 ≤ length (now online)) × (i < m) × (frames ≤ 64) × (length (now tables) ≤ 35 + frames + 1024) × (now marks ≡ markPages (keep (stays true owner 0) (rows 19 m (now online) 0)) (replicate 1024 0)) ⌝ }
-    ensures { λ r. ⌜ now (tables .exit) ≡ cond (ownedBy owner (rowAt 19 (now (online .entry)) i)) (set (now (tables .entry)) (entryAt frames (pageOf (rowAt 19 (now (online .entry)) i))) (cond (any (onPage (pageOf (rowAt 19 (now (online .entry)) i))) (keep (stays true owner 0) (rows 19 m (now (online .entry)) 0))) 1 0)) (now (tables .entry)) ⌝ }
+    requires { ⌜ (m * onlineWidth ≤ length (now online)) × (i < m) × (frames ≤ 64) × (length (now tables) ≤ orderAt + frames + 1024) × (now marks ≡ markPages (keep (stays true owner 0) (rows onlineWidth m (now online) 0)) (replicate 1024 0)) ⌝ }
+    ensures { λ r. ⌜ now (tables .exit) ≡ cond (ownedBy owner (rowAt onlineWidth (now (online .entry)) i)) (set (now (tables .entry)) (entryAt frames (pageOf (rowAt onlineWidth (now (online .entry)) i))) (cond (any (onPage (pageOf (rowAt onlineWidth (now (online .entry)) i))) (keep (stays true owner 0) (rows onlineWidth m (now (online .entry)) 0))) 1 0)) (now (tables .entry)) ⌝ }
 {
     if record::owner_of(online, i) != owner {
         return;
     }
-    let p = record::page_of(online, 19, i);
-    let at = 35 + frames + p.0;
+    let p = record::page_of(online, record::ONLINE_WIDTH, i);
+    let at = layout::ORDER_AT + frames + p.0;
     set_byte(tables, at, entry_anew(marks, p));
 }
 
 // The entries of the pages of the owner's rows judged anew by the marks.
 fn judge_marked(tables: &mut [u8], online: &[u8], frames: usize, m: usize, owner: u8, marks: &[u8])
-    requires { ⌜ (m * 19 ≤ length (now online)) × (frames ≤ 64) × (length (now tables) ≤ 35 + frames + 1024) × (now marks ≡ markPages (keep (stays true owner 0) (rows 19 m (now online) 0)) (replicate 1024 0)) ⌝ }
-    ensures { λ r. ⌜ now (tables .exit) ≡ judgedAnew frames (keep (stays true owner 0) (rows 19 m (now (online .entry)) 0)) (keep (ownedBy owner) (rows 19 m (now (online .entry)) 0)) (now (tables .entry)) ⌝ }
+    requires { ⌜ (m * onlineWidth ≤ length (now online)) × (frames ≤ 64) × (length (now tables) ≤ orderAt + frames + 1024) × (now marks ≡ markPages (keep (stays true owner 0) (rows onlineWidth m (now online) 0)) (replicate 1024 0)) ⌝ }
+    ensures { λ r. ⌜ now (tables .exit) ≡ judgedAnew frames (keep (stays true owner 0) (rows onlineWidth m (now (online .entry)) 0)) (keep (ownedBy owner) (rows onlineWidth m (now (online .entry)) 0)) (now (tables .entry)) ⌝ }
 {
     let mut i = 0;
     while i < m {
@@ -147,8 +149,8 @@ fn judge_marked(tables: &mut [u8], online: &[u8], frames: usize, m: usize, owner
 
 // The entries of the pages of the owner's rows judged anew: one walk marks the pages of the rows that stay, one sets the entries.
 fn judge_anew(tables: &mut [u8], online: &[u8], frames: usize, m: usize, owner: u8)
-    requires { ⌜ (m * 19 ≤ length (now online)) × (frames ≤ 64) × (length (now tables) ≤ 35 + frames + 1024) ⌝ }
-    ensures { λ r. ⌜ now (tables .exit) ≡ judgedAnew frames (keep (stays true owner 0) (rows 19 m (now (online .entry)) 0)) (keep (ownedBy owner) (rows 19 m (now (online .entry)) 0)) (now (tables .entry)) ⌝ }
+    requires { ⌜ (m * onlineWidth ≤ length (now online)) × (frames ≤ 64) × (length (now tables) ≤ orderAt + frames + 1024) ⌝ }
+    ensures { λ r. ⌜ now (tables .exit) ≡ judgedAnew frames (keep (stays true owner 0) (rows onlineWidth m (now (online .entry)) 0)) (keep (ownedBy owner) (rows onlineWidth m (now (online .entry)) 0)) (now (tables .entry)) ⌝ }
 {
     let mut marks = [0u8; 1024];
     mark_stays(&mut marks, online, m, owner);
@@ -157,8 +159,8 @@ fn judge_anew(tables: &mut [u8], online: &[u8], frames: usize, m: usize, owner: 
 
 // Each page of the owner's rows loses its frame, and its entry is judged anew.
 fn take_pages(tables: &mut [u8], online: &[u8], frames: usize, m: usize, owner: u8)
-    requires { ⌜ (35 + frames ≤ length (now tables)) × (length (now tables) ≤ 35 + frames + 1024) × (getD (now tables) 2 0 ≤ frames) × (frames ≤ 64) × (m * 19 ≤ length (now online)) ⌝ }
-    ensures { λ r. ⌜ now (tables .exit) ≡ withOrder frames (framesFreed frames (now (tables .entry)) (keep (ownedBy owner) (rows 19 m (now (online .entry)) 0)) (part 35 (getD (now (tables .entry)) 2 0) (now (tables .entry)))) (judgedAnew frames (keep (stays true owner 0) (rows 19 m (now (online .entry)) 0)) (keep (ownedBy owner) (rows 19 m (now (online .entry)) 0)) (now (tables .entry))) ⌝ }
+    requires { ⌜ (orderAt + frames ≤ length (now tables)) × (length (now tables) ≤ orderAt + frames + 1024) × (usedIn (now tables) ≤ frames) × (frames ≤ 64) × (m * onlineWidth ≤ length (now online)) ⌝ }
+    ensures { λ r. ⌜ now (tables .exit) ≡ withOrder frames (framesFreed frames (now (tables .entry)) (keep (ownedBy owner) (rows onlineWidth m (now (online .entry)) 0)) (part orderAt (usedIn (now (tables .entry))) (now (tables .entry)))) (judgedAnew frames (keep (stays true owner 0) (rows onlineWidth m (now (online .entry)) 0)) (keep (ownedBy owner) (rows onlineWidth m (now (online .entry)) 0)) (now (tables .entry))) ⌝ }
 {
     let order = free_frames(
         tables,
@@ -172,15 +174,40 @@ fn take_pages(tables: &mut [u8], online: &[u8], frames: usize, m: usize, owner: 
     frames::save_order(tables, frames, order);
 }
 
-// The tables and the online rows after the abort of an owner: m online rows, of which the table holds `room`.
-pub fn abort(tables: &mut [u8], online: &mut [u8], frames: usize, m: usize, room: usize, owner: u8)
-    requires { ⌜ (35 + frames ≤ length (now tables)) × (length (now tables) ≤ 35 + frames + 1024) × (getD (now tables) 2 0 ≤ frames) × (frames ≤ 64) × (length (now online) ≡ room * 19) × (m ≤ room) × (room ≤ 512) × (owner ≤ 32) ⌝ }
-    ensures { λ r. ⌜ (now (tables .exit) ≡ set (withCount (length (keep (stays true owner 0) (rows 19 m (now (online .entry)) 0))) (withOrder frames (framesFreed frames (now (tables .entry)) (keep (ownedBy owner) (rows 19 m (now (online .entry)) 0)) (part 35 (getD (now (tables .entry)) 2 0) (now (tables .entry)))) (judgedAnew frames (keep (stays true owner 0) (rows 19 m (now (online .entry)) 0)) (keep (ownedBy owner) (rows 19 m (now (online .entry)) 0)) (now (tables .entry))))) (liveAt owner) 0)
-        × (now (online .exit) ≡ table 19 room (keep (stays true owner 0) (rows 19 m (now (online .entry)) 0))) ⌝ }
+// The tables and the online rows after the abort of an owner: m online rows, of which the table holds `size`.
+fn take_back(tables: &mut [u8], online: &mut [u8], frames: usize, m: usize, size: usize, owner: u8)
+    requires { ⌜ (orderAt + frames ≤ length (now tables)) × (length (now tables) ≤ orderAt + frames + 1024) × (usedIn (now tables) ≤ frames) × (frames ≤ 64) × (length (now online) ≡ size * onlineWidth) × (m ≤ size) × (size ≤ 512) × (owner ≤ 32) ⌝ }
+    ensures { λ r. ⌜ (now (tables .exit) ≡ set (withCount (length (keep (stays true owner 0) (rows onlineWidth m (now (online .entry)) 0))) (withOrder frames (framesFreed frames (now (tables .entry)) (keep (ownedBy owner) (rows onlineWidth m (now (online .entry)) 0)) (part orderAt (usedIn (now (tables .entry))) (now (tables .entry)))) (judgedAnew frames (keep (stays true owner 0) (rows onlineWidth m (now (online .entry)) 0)) (keep (ownedBy owner) (rows onlineWidth m (now (online .entry)) 0)) (now (tables .entry))))) (liveAt owner) 0)
+        × (now (online .exit) ≡ table onlineWidth size (keep (stays true owner 0) (rows onlineWidth m (now (online .entry)) 0))) ⌝ }
 {
     take_pages(tables, online, frames, m, owner);
-    let left = table::delete(online, 0, m, m, room, true, owner, PageNo(0));
-    word::store(tables, 0, 2, left as u64);
-    let at = 2 + owner as usize;
+    let left = table::delete(online, 0, m, m, size, true, owner, PageNo(0));
+    word::store(tables, layout::COUNT_AT, 2, left as u64);
+    let at = layout::LIVE_AT + owner as usize;
     tables[at] = 0;
+}
+
+pub fn abort(
+    fixed: &[u8],
+    marks: &[u8],
+    log: &[u8],
+    stored: &[u8],
+    tables: &mut [u8],
+    online: &mut [u8],
+    pool: &[u8],
+    owner: u8,
+)
+    requires { ⌜ Shaped (areas fixed marks log stored tables online pool) × (owner ≤ 32) ⌝ }
+    ensures { λ r. ⌜ after fixed marks log stored tables online pool ≡ aborted (before fixed marks log stored tables online pool) owner .lent ⌝ }
+{
+    let given = layout::params_of(fixed);
+    let m = word::load(tables, layout::COUNT_AT, 2) as usize;
+    take_back(
+        tables,
+        online,
+        given.frames as usize,
+        m,
+        given.online as usize,
+        owner,
+    );
 }

@@ -5,16 +5,16 @@ use mathlib.Core.Bool.{cond}
 use mathlib.Core.List.{List, [], _∷_}
 use lib.ListN.{length}
 use Rattle.record.specs.Rows.{rows, keep}
-use Rattle.record.specs.Record.{onPage, committedOn, smallest, greatest}
+use Rattle.record.specs.Record.{onlineWidth, onPage, committedOn, smallest, greatest}
 use Rattle.table.specs.Before.{NoneBefore, NoneFrom}
 use Rattle.table.specs.declared.page.Survey.{Survey}
 
 -- r is the survey of the first m rows of t
 pub record Surveyed (p m : ℕ) (t : List ℕ) (r : Survey) : Type 0 where
-  pub all : r .all ≡ length (keep (onPage p) (rows 19 m t 0))
-  pub committed : r .committed ≡ length (keep (committedOn p) (rows 19 m t 0))
-  pub least : r .least ≡ smallest 0 (keep (committedOn p) (rows 19 m t 0))
-  pub most : r .most ≡ greatest 0 (keep (committedOn p) (rows 19 m t 0))
+  pub all : r .all ≡ length (keep (onPage p) (rows onlineWidth m t 0))
+  pub committed : r .committed ≡ length (keep (committedOn p) (rows onlineWidth m t 0))
+  pub least : r .least ≡ smallest 0 (keep (committedOn p) (rows onlineWidth m t 0))
+  pub most : r .most ≡ greatest 0 (keep (committedOn p) (rows onlineWidth m t 0))
   pub fewer : r .committed ≤ r .all
   pub below : r .all ≤ m
   pub from : NoneBefore (committedOn p) t (r .from)

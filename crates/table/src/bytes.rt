@@ -4,24 +4,14 @@ ghost use mathlib.Core.List.{_++_};
 ghost use Prim.Native.Nat.{_+_, _-_, _≤_};
 ghost use lib.ListN.{length, take, drop, replicate};
 ghost use Rattle.record.specs.Part.{part, withPart};
-
-// Zeros, all of it.
-pub fn wipe(s: &mut [u8])
-    ensures { λ r. ⌜ now (s .exit) ≡ replicate (length (now (s .entry))) 0 ⌝ }
-{
-    let mut i = 0;
-    while i < s.len() {
-        s[i] = 0;
-        i += 1;
-    }
-}
+ghost use Rattle.record.specs.Record.{onlineWidth};
 
 // Zeros from a place to the end.
 pub fn clear(s: &mut [u8], from: usize)
     requires { ⌜ from ≤ length (now s) ⌝ }
     ensures { λ r. ⌜ now (s .exit) ≡ take from (now (s .entry)) ++ replicate (length (now (s .entry)) - from) 0 ⌝ }
 {
-    wipe(&mut s[from..]);
+    fill::wipe(&mut s[from..]);
 }
 
 // The bytes of s at the front of d.
@@ -78,15 +68,15 @@ pub fn slide(s: &mut [u8], from: usize, to: usize, n: usize)
 
 // An online row moved down as `slide` does, by way of a copy.
 pub fn slide_row(s: &mut [u8], from: usize, to: usize)
-    requires { ⌜ (to ≤ from) × (from + 19 ≤ length (now s)) ⌝ }
-    ensures { λ r. ⌜ now (s .exit) ≡ withPart to 19 (now (s .entry)) (part from 19 (now (s .entry))) ⌝ }
+    requires { ⌜ (to ≤ from) × (from + onlineWidth ≤ length (now s)) ⌝ }
+    ensures { λ r. ⌜ now (s .exit) ≡ withPart to onlineWidth (now (s .entry)) (part from onlineWidth (now (s .entry))) ⌝ }
 {
     if to == from {
         return;
     }
-    let mut row = [0u8; 19];
-    let f = from + 19;
+    let mut row = [0u8; record::ONLINE_WIDTH];
+    let f = from + record::ONLINE_WIDTH;
     copy(&mut row, &s[from..f]);
-    let e = to + 19;
+    let e = to + record::ONLINE_WIDTH;
     copy(&mut s[to..e], &row);
 }

@@ -3,7 +3,7 @@ ghost use mathlib.Core.Path.{_≡_};
 ghost use Prim.Native.Nat.{_+_, _*_, _≤_, min, max};
 ghost use lib.ListN.{length};
 ghost use Rattle.record.specs.Rows.{rowAt};
-ghost use Rattle.record.specs.Record.{lesser};
+ghost use Rattle.record.specs.Record.{onlineWidth, lesser};
 ghost use Rattle.table.specs.Seen.{Seen};
 use number::PageNo;
 
@@ -51,10 +51,10 @@ fn earlier_of(a: usize, b: usize) -> usize
 
 // The survey with row i besides.
 pub fn look(s: Survey, t: &[u8], i: usize, p: PageNo) -> Survey
-    requires { ⌜ (i * 19 + 19 ≤ length (now t)) × (s .all ≤ i) × (s .committed ≤ i) ⌝ }
-    ensures { λ r. ⌜ Seen s (p .0) i (rowAt 19 (now (t .entry)) i) r ⌝ }
+    requires { ⌜ (i * onlineWidth + onlineWidth ≤ length (now t)) × (s .all ≤ i) × (s .committed ≤ i) ⌝ }
+    ensures { λ r. ⌜ Seen s (p .0) i (rowAt onlineWidth (now (t .entry)) i) r ⌝ }
 {
-    let q = record::page_of(t, 19, i);
+    let q = record::page_of(t, record::ONLINE_WIDTH, i);
     if q.0 != p.0 {
         return s;
     }

@@ -2,11 +2,9 @@
 -- A restart at any time, a format, and two stores at their doors too.
 use Prim.Native.Nat.{ℕ}
 use mathlib.Core.Path.{_≡_, refl, sym, ap, _∙_, subst}
-use mathlib.Core.Bool.{Bool, true, false, cond}
+use mathlib.Core.Bool.{Bool, true, false}
 use mathlib.Core.List.{List, [], _++_}
 use lib.ListN.{length, drop}
-use lib.Dec.{eqb}
-use borrow.Author.Tests.{eqb-true}
 use Rattle.record.specs.Part.{part}
 use Rattle.record.specs.Record.{rowOf}
 use Rattle.rules.specs.declared.Params.{Params}
@@ -25,32 +23,32 @@ use Rattle.ventarico.specs.Said.{Told}
 use Rattle.history.specs.Past.{Past, fresh, shown}
 use Rattle.history.specs.Run.{Call, Begin, Commit, Abort, Evict, Read, Update, Compact, Checkpoint, Close, Restart, outcome, taken, told, Run, format, no-format, call, restart}
 use Rattle.history.specs.Twins.{transaction, upkeep, isFull, full, Agree, acted, not-due, refused, keeping, Twins, formats, both, first, second, restarts}
-use Rattle.theorem.specs.Heard.{heard, heardFormat, saysFull}
+use Rattle.theorem.specs.Heard.{heardAs, heard, heardFormat, saysFull}
 use Rattle.theorem.proofs.Shows.{restart-accepted, read-shows}
 use Rattle.theorem.proofs.Twins.{twin-runs, twins-agree}
 
 -- a refusal's number is not 0
-refused-heard : (h : Past) (c : Call) (r : Refusal) → h ≡ heard h c (replyOf (Refused r))
-unfolding heard
-refused-heard h c NotSound = refl
-refused-heard h c (Argument b) = refl
-refused-heard h c ShortBuffer = refl
-refused-heard h c NotLive = refl
-refused-heard h c Live = refl
-refused-heard h c Held = refl
-refused-heard h c OnlineFull = refl
-refused-heard h c LogFull = refl
-refused-heard h c NumbersEnd = refl
-refused-heard h c NoFrame = refl
+refused-heard : (h k : Past) (r : Refusal) → h ≡ heardAs h k (replyOf (Refused r))
+unfolding heardAs
+refused-heard h k NotSound = refl
+refused-heard h k (Argument b) = refl
+refused-heard h k ShortBuffer = refl
+refused-heard h k NotLive = refl
+refused-heard h k Live = refl
+refused-heard h k Held = refl
+refused-heard h k OnlineFull = refl
+refused-heard h k LogFull = refl
+refused-heard h k NumbersEnd = refl
+refused-heard h k NoFrame = refl
 
 -- a call that is done or refused
 by-answer : (h : Past) (c : Call) (v : Verdict) (s : Lent) (buffer after : List ℕ) (d : Left) → told h c (settled v s buffer (doneWith d after) .answer) ≡ heard h c (replyOf (settled v s buffer (doneWith d after) .answer))
-unfolding told heard
+unfolding told heardAs
 by-answer h c Go s buffer after d = refl
-by-answer h c (Refuse r) s buffer after d = refused-heard h c r
+by-answer h c (Refuse r) s buffer after d = refused-heard h (taken h c) r
 
 pub told-heard : (h : Past) (s : Lent) (c : Call) → told h c (outcome s c .answer) ≡ heard h c (replyOf (outcome s c .answer))
-unfolding outcome beginCall readCall updateCall commitCall abortCall evictCall compactCall closeCall checkpointCall restartCall told heard taken
+unfolding outcome beginCall readCall updateCall commitCall abortCall evictCall compactCall closeCall checkpointCall restartCall told heardAs taken
 told-heard h s (Begin x) = by-answer h (Begin x) (judgeBegin s x) s [] [] (begun s x)
 told-heard h s (Commit x) = by-answer h (Commit x) (judgeCommit s x) s [] [] (committing s x)
 told-heard h s (Abort x) = by-answer h (Abort x) (judgeAbort s x) s [] [] (aborted s x)
@@ -62,7 +60,7 @@ told-heard h s (Compact p minDel maxAge) = pick (judgeCompact s p minDel maxAge)
     pick : (v : Verdict) (b : Bool) → told h (Compact p minDel maxAge) (settled v s [] (dueOr b s (doneWith (compacted s p) [])) .answer) ≡ heard h (Compact p minDel maxAge) (replyOf (settled v s [] (dueOr b s (doneWith (compacted s p) [])) .answer))
     pick Go true = refl
     pick Go false = refl
-    pick (Refuse r) b = refused-heard h (Compact p minDel maxAge) r
+    pick (Refuse r) b = refused-heard h h r
 told-heard h s (Checkpoint minDel maxAge) = by-answer h (Checkpoint minDel maxAge) (judgeCheckpoint s minDel maxAge) s [] [] (checkpointed minDel maxAge s)
 told-heard h s Close = by-answer h Close (judgeClose s) s [] [] (closed s)
 told-heard h s Restart = by-answer h Restart (judgeRestart s) s [] [] (restarted s)
@@ -107,25 +105,18 @@ first-door s g last r t k z = subst (λ (l : Lent). Run (fresh g last (s .durabl
 
 -- a format at its door, at any time: the history begins anew, or nothing has happened
 pub format-door : {h : Past} {s : Lent} → Run h s → (g : Params) (last : ℕ) (r : Reply) (t : Lent) → Told (formatCall s g last) r t → Run (heardFormat h g last (s .durable .stored) r) t
-unfolding heardFormat
+unfolding heardAs
 format-door {h} {s} u g last r t k =
-    subst (λ (l : Lent). Run (cond (eqb (r .code) 0) (fresh g last (s .durable .stored)) h) l) (sym (k .lent))
-    (subst (λ (y : Reply). Run (cond (eqb (y .code) 0) (fresh g last (s .durable .stored)) h) (formatCall s g last .lent)) (sym (k .reply)) (go (formatCall s g last .answer) refl))
+    subst (λ (l : Lent). Run (heardFormat h g last (s .durable .stored) r) l) (sym (k .lent))
+    (subst (λ (y : Reply). Run (heardFormat h g last (s .durable .stored) y) (formatCall s g last .lent)) (sym (k .reply)) (go (formatCall s g last .answer) refl))
   where
-    start : Past
-    start = fresh g last (s .durable .stored)
+    accepted : replyOf (formatCall s g last .answer) .code ≡ 0 → Run (fresh g last (s .durable .stored)) (formatCall s g last .lent)
+    accepted z = format s g last (done-format s g last (replyOf (formatCall s g last .answer)) refl z)
 
-    refused-run : (why : Refusal) → formatCall s g last .answer ≡ Refused why → Run (cond (eqb (codeOf why) 0) start h) (formatCall s g last .lent)
-    refused-run why e = pick (eqb (codeOf why) 0) refl
-      where
-        pick : (b : Bool) → eqb (codeOf why) 0 ≡ b → Run (cond b start h) (formatCall s g last .lent)
-        pick true z = absurd (mathlib.Core.Bool.false≢true (code-refused why (eqb-true (codeOf why) 0 z)))
-        pick false z = no-format u g last why e
-
-    go : (a : Answer) → formatCall s g last .answer ≡ a → Run (cond (eqb (replyOf a .code) 0) start h) (formatCall s g last .lent)
-    go (Done n) e = format s g last (done-format s g last (replyOf (formatCall s g last .answer)) refl (ap (λ (a : Answer). replyOf a .code) e))
-    go NotDue e = format s g last (done-format s g last (replyOf (formatCall s g last .answer)) refl (ap (λ (a : Answer). replyOf a .code) e))
-    go (Refused why) e = refused-run why e
+    go : (a : Answer) → formatCall s g last .answer ≡ a → Run (heardFormat h g last (s .durable .stored) (replyOf a)) (formatCall s g last .lent)
+    go (Done n) e = accepted (ap (λ (a : Answer). replyOf a .code) e)
+    go NotDue e = accepted (ap (λ (a : Answer). replyOf a .code) e)
+    go (Refused why) e = subst (λ (z : Past). Run z (formatCall s g last .lent)) (refused-heard h (fresh g last (s .durable .stored)) why) (no-format u g last why e)
 
 -- a read that C is told is done has put what the history shows into the caller's buffer, and left the rest of it
 pub read-at-door : {h : Past} {s : Lent} → Run h s → h .down ≡ false → (buffer after : List ℕ) (x p offset w : ℕ) (r : Reply) (t : Lent) → Told (readCall s buffer x p offset w) r t → after ≡ readCall s buffer x p offset w .buffer → r .code ≡ 0

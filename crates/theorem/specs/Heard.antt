@@ -8,13 +8,17 @@ use Rattle.rules.specs.declared.Reply.{Reply}
 use Rattle.history.specs.Past.{Past, fresh}
 use Rattle.history.specs.Run.{Call, taken}
 
+-- code 0, and the history is k; else it is h, as it was
+unfoldable pub heardAs : Past → Past → Reply → Past
+heardAs h k r = cond (eqb (r .code) 0) k h
+
 -- a call but format
-unfoldable pub heard : Past → Call → Reply → Past
-heard h c r = cond (eqb (r .code) 0) (taken h c) h
+abbrev pub heard : Past → Call → Reply → Past
+heard h c r = heardAs h (taken h c) r
 
 -- a format of a store with these stored pages
-unfoldable pub heardFormat : Past → Params → ℕ → List ℕ → Reply → Past
-heardFormat h g last stored r = cond (eqb (r .code) 0) (fresh g last stored) h
+abbrev pub heardFormat : Past → Params → ℕ → List ℕ → Reply → Past
+heardFormat h g last stored r = heardAs h (fresh g last stored) r
 
 -- a full table or log: 7 or 8
 unfoldable pub saysFull : Reply → Bool

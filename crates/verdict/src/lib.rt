@@ -6,7 +6,7 @@ ghost use Prim.Native.Nat.{_≤_};
 ghost use lib.ListN.{length, getD};
 ghost use lib.Dec.{eqb};
 ghost use Rattle.rules.specs.Sound.{inRange, exactLengths};
-ghost use Rattle.rules.specs.Lent.{entryAt};
+ghost use Rattle.rules.specs.Lent.{fixedLength, entryAt};
 ghost use Rattle.rules.specs.Areas.{before};
 ghost use Rattle.rules.specs.Calls.{judgeBegin, judgeRead, judgeUpdate, judgeCommit, judgeAbort, judgeEvict, judgeCompact, judgeClose, judgeCheckpoint, judgeRestart, judgeFormat};
 use rules::Bad;
@@ -147,7 +147,7 @@ pub fn judge_read(
         return Verdict::Refuse(Refusal::NotSound);
     }
     let given = layout::params_of(fixed);
-    let m = word::load(tables, 0, 2) as usize;
+    let m = word::load(tables, layout::COUNT_AT, 2) as usize;
     judge::may_read(
         given.size as usize,
         given.pages as usize,
@@ -216,9 +216,9 @@ pub fn judge_commit(
         return Verdict::Refuse(Refusal::NotSound);
     }
     let given = layout::params_of(fixed);
-    let m = word::load(tables, 0, 2) as usize;
-    let n = word::load(marks, 8, 4) as usize;
-    let last = word::load(marks, 0, 4);
+    let m = word::load(tables, layout::COUNT_AT, 2) as usize;
+    let n = word::load(marks, layout::LOGGED_AT, 4) as usize;
+    let last = word::load(marks, layout::LAST_AT, 4);
     if 32 < x {
         return Verdict::Refuse(Refusal::Argument(Bad::Number));
     }
@@ -276,7 +276,7 @@ fn entry_of(tables: &[u8], frames: usize, p: u32) -> u8
     requires { ⌜ frames ≤ 64 ⌝ }
     ensures { λ r. ⌜ r ≡ getD (now (tables .entry)) (entryAt frames p) 0 ⌝ }
 {
-    let at = 35 + frames + p as usize;
+    let at = layout::ORDER_AT + frames + p as usize;
     if tables.len() <= at {
         return 0;
     }
@@ -295,9 +295,9 @@ fn lengths(
     g: Params,
 ) -> bool
     requires { ⌜ inRange g ≡ true ⌝ }
-    ensures { λ r. ⌜ r ≡ (eqb (length (now (fixed .entry))) 20 && exactLengths (before fixed marks log stored tables online pool) g) ⌝ }
+    ensures { λ r. ⌜ r ≡ (eqb (length (now (fixed .entry))) fixedLength && exactLengths (before fixed marks log stored tables online pool) g) ⌝ }
 {
-    if fixed.len() != 20 {
+    if fixed.len() != layout::FIXED_LENGTH {
         return false;
     }
     durable::exact_lengths(fixed, marks, log, stored, tables, online, pool, g)

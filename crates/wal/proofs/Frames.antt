@@ -9,10 +9,9 @@ use lib.Dec.{leb}
 use borrow.Author.Tests.{le-leb}
 use Rattle.wal.specs.declared.Sums.{Sums}
 use Rattle.wal.specs.declared.Header.{Header}
-use Rattle.wal.specs.declared.Seen.{Seen}
 use Rattle.wal.specs.declared.Seen.the-variants.{Valid, Stop}
 use Rattle.wal.specs.Sum.{field}
-use Rattle.wal.specs.Layout.{Frame, frameSize, frameSums, isValid, seen, frameAt, framesFrom}
+use Rattle.wal.specs.Layout.{frameSize, frameSums, isValid, seen, frameAt, framesFrom}
 
 -- what a look says
 pub valid-parts : (h : Header) (s s′ : Sums) (f : List ℕ) (p n : ℕ) → seen h s f ≡ Valid p n s′ → (isValid h s f ≡ true) × (field f 0 ≡ p) × (field f 4 ≡ n) × (frameSums h s f ≡ s′)

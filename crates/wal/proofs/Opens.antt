@@ -1,5 +1,5 @@
 -- What the tests of a header and of a frame come to.
-use Prim.Native.Nat.{ℕ, _+_, _*_, _/_, _≤_, _<_}
+use Prim.Native.Nat.{ℕ, _*_, _/_, _≤_, _<_}
 use mathlib.Core.Path.{_≡_, refl, sym, ap, _∙_}
 use mathlib.Core.Bool.{Bool, true, false, cond, not, _&&_, _||_, and-false}
 use mathlib.Core.List.{List}
@@ -10,9 +10,7 @@ use borrow.Author.Tests.{eqb-true, leb-true, le-leb, lt-leb}
 use Rattle.word.proofs.Tests.{and-both, so, not-so}
 use Rattle.wal.specs.declared.Sums.{Sums}
 use Rattle.wal.specs.declared.Header.{Header}
-use Rattle.wal.specs.declared.Opened.{Opened}
 use Rattle.wal.specs.declared.Opened.the-variants.{Good, BadHeader, BadSum}
-use Rattle.wal.specs.declared.Seen.{Seen}
 use Rattle.wal.specs.declared.Seen.the-variants.{Valid, Stop}
 use Rattle.wal.specs.Sum.{field, noSums, summed}
 use Rattle.wal.specs.Layout.{magicOf, version, isPageSize, isHeader, headIn, holdsSums, opened, frameSums, isValid, seen}

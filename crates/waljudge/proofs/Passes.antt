@@ -1,5 +1,5 @@
 -- The pass finds what the frames say: how many, where the last commit frame ends, where a page's last image begins.
-use Prim.Native.Nat.{ℕ, zero, suc, _+_, _≤_, _<_}
+use Prim.Native.Nat.{ℕ, zero, suc, _+_, _<_}
 use native.Mathlib.Omega.{arith}
 use mathlib.Core.Path.{_≡_, refl, sym, ap, _∙_}
 use mathlib.Core.Bool.{Bool, true, false, cond, not, _&&_, _||_}
@@ -15,7 +15,7 @@ use Rattle.wal.specs.declared.Header.{Header}
 use Rattle.wal.specs.Sum.{field}
 use Rattle.wal.specs.Layout.{Frame, frameSize, frameSums, isValid, frameAt, framesFrom, opened, validFrames}
 use Rattle.wal.specs.declared.Opened.{Opened}
-use Rattle.wal.specs.declared.Opened.the-variants.{Good, BadHeader, BadSum}
+use Rattle.wal.specs.declared.Opened.the-variants.{Good}
 use Rattle.rules.specs.declared.Bad.the-variants.{Page}
 use Rattle.rules.specs.declared.Refusal.the-variants.{Argument}
 use Rattle.rules.specs.Answers.{codeOf}

@@ -1,17 +1,17 @@
 -- The pass: a turn over a valid frame, and its two ends.
-use Prim.Native.Nat.{ℕ, zero, suc, _+_, _-_, _≤_, _<_}
+use Prim.Native.Nat.{ℕ, suc, _+_, _-_, _≤_, _<_}
 use native.Mathlib.Omega.{arith}
-use mathlib.Core.Path.{_≡_, refl, sym, ap, _∙_}
-use mathlib.Core.Bool.{Bool, true, false, cond, _&&_, and-false}
+use mathlib.Core.Path.{_≡_, sym, ap, _∙_}
+use mathlib.Core.Bool.{cond, and-false}
 use mathlib.Core.List.{List, [], _∷_}
 use lib.ListN.{length, take, drop}
 use lib.Dec.{eqb, leb}
-use borrow.Author.Tests.{le-leb, lt-leb, eq-eqb, ne-eqb}
+use borrow.Author.Tests.{lt-leb, eq-eqb, ne-eqb}
 use Rattle.wal.specs.declared.Sums.{Sums}
 use Rattle.wal.specs.declared.Header.{Header}
 use Rattle.wal.specs.declared.Seen.{Seen}
 use Rattle.wal.specs.declared.Seen.the-variants.{Valid, Stop}
-use Rattle.wal.specs.Layout.{Frame, frameSize, isValid, seen, frameAt, framesFrom}
+use Rattle.wal.specs.Layout.{Frame, frameSize, seen, frameAt, framesFrom}
 use Rattle.wal.proofs.Frames.{stop-part, more, none}
 use Rattle.waljudge.specs.declared.Pass.{Pass}
 use Rattle.waljudge.specs.Pass.{taken, passed}

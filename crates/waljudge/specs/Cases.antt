@@ -1,12 +1,13 @@
 -- The worked examples of docs/WAL.md, decided by computation on the definitions that the promises cite.
 use Prim.Native.Nat.{ℕ, zero, suc, _+_}
 use mathlib.Core.Path.{_≡_, refl}
-use mathlib.Core.Bool.{Bool, true, false}
+use mathlib.Core.Bool.{true, false}
 use mathlib.Core.List.{List, [], _∷_, _++_}
 use Rattle.word.specs.Word.{num}
 use Rattle.record.specs.Rows.{any}
 use Rattle.wal.specs.Sum.{field, fieldsOf, wordAt, noSums, paired, summed}
 use Rattle.wal.specs.Layout.{isPageSize, isHeader, headIn, opened, frameSums, isValid, framesFrom, validFrames}
+use Rattle.wal.specs.Written.{headFields, headOf, headBytes, imageSums, frameBytes, framesBytes, written}
 use Rattle.waljudge.specs.Judge.{upToCommit, lastPlace, judged, foundIn}
 
 -- n numbers from k on
@@ -53,6 +54,15 @@ little-found = refl
 pub big-found : foundIn big 6 ≡ record { code = 0; found = 1; at = 56 }
 unfolding foundIn opened isHeader isPageSize headIn validFrames framesFrom isValid frameSums summed paired wordAt field num any lastPlace upToCommit big image fieldsOf counted
 big-found = refl
+
+-- and it is what is written of these pages: page 5 from 0, of 8
+pub little-written : written false 512 7 3735928559 16909060 (λ (p : ℕ). image) 8 (5 ∷ []) ≡ little
+unfolding written headBytes headFields headOf framesBytes frameBytes imageSums summed paired wordAt field num little image fieldsOf counted
+little-written = refl
+
+pub big-written : written true 512 7 3735928559 16909060 (λ (p : ℕ). image) 8 (5 ∷ []) ≡ big
+unfolding written headBytes headFields headOf framesBytes frameBytes imageSums summed paired wordAt field num big image fieldsOf counted
+big-written = refl
 
 -- a page that no frame has; page 0
 pub little-absent : foundIn little 5 ≡ record { code = 0; found = 0; at = 0 }

@@ -1,6 +1,6 @@
 -- A log judged, and a page looked for in it.
 use Prim.Native.Nat.{ℕ, _+_}
-use mathlib.Core.Bool.{Bool, true, false, cond, not, _||_}
+use mathlib.Core.Bool.{Bool, cond, not, _||_}
 use mathlib.Core.List.{List, [], _∷_}
 use lib.ListN.{length}
 use lib.Dec.{eqb}
@@ -8,7 +8,6 @@ use Rattle.record.specs.Rows.{any}
 use Rattle.rules.specs.declared.Bad.the-variants.{Page}
 use Rattle.rules.specs.declared.Refusal.the-variants.{Argument}
 use Rattle.rules.specs.Answers.{codeOf}
-use Rattle.wal.specs.declared.Header.{Header}
 use Rattle.wal.specs.declared.Opened.{Opened}
 use Rattle.wal.specs.declared.Opened.the-variants.{Good, BadHeader, BadSum}
 use Rattle.wal.specs.Layout.{Frame, opened, validFrames}

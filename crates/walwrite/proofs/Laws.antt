@@ -6,18 +6,18 @@ use native.Mathlib.Numerals.{add-one}
 use mathlib.Core.Path.{_≡_, refl, sym, ap, _∙_}
 use mathlib.Core.Bool.{Bool, true, false, cond, not, _&&_}
 use mathlib.Core.List.{List, [], _∷_, _++_, append-assoc, append-nil}
-use lib.ListN.{length, getD, take, drop, length-append, length-drop, length-take, drop-of-length-le, take-append-drop}
-use lib.Seq.{drop-cons, take-at, drop-at, drop-drop, take-all, length-take-le}
+use lib.ListN.{length, getD, take, drop, length-append, length-drop, drop-of-length-le, take-append-drop}
+use lib.Seq.{drop-cons, take-at, drop-at, drop-drop, length-take-le}
 use lib.Dec.{eqb, leb, ltb}
-use borrow.Author.Tests.{lt-ltb, le-ltb, ltb-true, ltb-false, le-leb, lt-leb, leb-true, eq-eqb, ne-eqb}
+use borrow.Author.Tests.{lt-ltb, le-ltb, ltb-true, ltb-false, le-leb, lt-leb, leb-true, eqb-false, eq-eqb, ne-eqb}
 use Rattle.word.proofs.Tests.{so, not-so}
 use Rattle.record.specs.Part.{withPart}
 use Rattle.record.specs.Rows.{rows, keep}
-use Rattle.record.specs.Record.{committedOn, chosen, applied}
+use Rattle.record.specs.Record.{chosen, applied}
 use Rattle.rules.specs.declared.Bad.the-variants.{Page, Parameter}
 use Rattle.rules.specs.declared.Refusal.the-variants.{NotSound, Argument}
 use Rattle.rules.specs.declared.Reply.{Reply}
-use Rattle.rules.specs.Lent.{Lent, sizeOf, pagesOf, countOf, pageIn}
+use Rattle.rules.specs.Lent.{Lent, sizeOf, pagesOf, countOf}
 use Rattle.rules.specs.Shape.{Shaped}
 use Rattle.rules.specs.Sound.{every, sound}
 use Rattle.rules.proofs.Every.{every-at}
@@ -31,7 +31,7 @@ use Rattle.walwrite.specs.declared.Why.the-variants.{Store, ShortTarget,
 use Rattle.walwrite.specs.declared.Ruling.{Ruling}
 use Rattle.walwrite.specs.declared.Ruling.the-variants.{Go, Refuse}
 use Rattle.walwrite.specs.Image.{imageIn}
-use Rattle.walwrite.specs.Write.{codeOfWhy, listed, refuseIf, mayWrite, judgeWrite, logOf, Outcome, settled, writeCall}
+use Rattle.walwrite.specs.Write.{codeOfWhy, listed, refuseIf, mayWrite, judgeWrite, logOf, settled, writeCall}
 
 -- the rest of a list, from a place within it
 rest : (l : List ℕ) (i : ℕ) → i < length l → drop i l ≡ getD l i 0 ∷ drop (i + 1) l
@@ -156,9 +156,6 @@ frames-turn h image count i at w c l t ys u s r k room n ec did inv =
     ∙ ap (λ (x : List ℕ). take at t ++ x) (sym g)
     ∙ inv
 
-pub frames-start : (h : Header) (image : ℕ → List ℕ) (count : ℕ) (l t : List ℕ) (s : Sums) → take 32 t ++ framesBytes h image count (drop 0 l) s ≡ take 32 t ++ framesBytes h image count l s
-frames-start h image count l t s = refl
-
 pub frames-done : (h : Header) (image : ℕ → List ℕ) (count i at : ℕ) (l t t₀ : List ℕ) (s s₀ : Sums) → length l ≤ i → at ≤ length t → 32 ≤ length t₀ → take at t ++ framesBytes h image count (drop i l) s ≡ take 32 t₀ ++ framesBytes h image count l s₀ → drop at t ≡ drop at t₀ → t ≡ take 32 t₀ ++ (framesBytes h image count l s₀ ++ drop (32 + length (framesBytes h image count l s₀)) t₀)
 unfolding framesBytes
 frames-done h image count i at l t t₀ s s₀ k whole front inv back =
@@ -240,6 +237,22 @@ go-parts size pages room order l = pick (listed pages l) (leb order 1) (leb (len
     pick true true false d ea ec ed k = let z : _≡_ {A = ℕ} 0 1 = cc in absurd (omega arith)
     pick true true true true ea ec ed k = let z : _≡_ {A = ℕ} 0 1 = cc in absurd (omega arith)
     pick true true true false ea ec ed k = (ea, leb-true (length l) 4294967295 ec, ltb-false room (32 + length l * (24 + size)) ed)
+
+-- and that the list is not empty
+some : (n : ℕ) → (n ≡ 0 → ⊥) → 1 ≤ n
+some zero f = absurd (f refl)
+some (suc n) f = omega arith
+
+pub go-some : (size pages room order : ℕ) (l : List ℕ) → mayWrite size pages l room order ≡ Go → 1 ≤ length l
+unfolding mayWrite refuseIf
+go-some size pages room order l = pick (listed pages l) (leb order 1 && leb (length l) 4294967295) (ltb room (32 + length l * (24 + size))) (eqb (length l) 0) refl
+  where
+    pick : (a b c d : Bool) → eqb (length l) 0 ≡ d → refuseIf (not a) (Store (Argument Page)) (refuseIf (not b) (Store (Argument Parameter)) (refuseIf c ShortTarget (refuseIf d EmptyList Go))) ≡ Go → 1 ≤ length l
+    pick false b c d e k = let z : _≡_ {A = ℕ} 0 1 = cc in absurd (omega arith)
+    pick true false c d e k = let z : _≡_ {A = ℕ} 0 1 = cc in absurd (omega arith)
+    pick true true true d e k = let z : _≡_ {A = ℕ} 0 1 = cc in absurd (omega arith)
+    pick true true false true e k = let z : _≡_ {A = ℕ} 0 1 = cc in absurd (omega arith)
+    pick true true false false e k = some (length l) (eqb-false (length l) 0 e)
 
 -- `judge_write`
 pub judge-unsound : (s : Lent) (l : List ℕ) (room order : ℕ) (b : Bool) → b ≡ sound s → not b ≡ true → Refuse (Store NotSound) ≡ judgeWrite s l room order

@@ -5,7 +5,7 @@ ghost use mathlib.Core.Bool.{true, cond};
 ghost use mathlib.Core.List.{_++_};
 ghost use Prim.Native.Nat.{_+_, _*_, _≤_, _<_};
 ghost use lib.ListN.{length, take, drop};
-ghost use Rattle.rules.specs.Lent.{lentOf};
+ghost use Rattle.rules.specs.Areas.{before};
 ghost use Rattle.wal.specs.Layout.{frameSize};
 ghost use Rattle.wal.specs.Written.{imageSums, frameBytes, framesBytes, written};
 ghost use Rattle.walwrite.specs.Image.{imageIn};
@@ -81,12 +81,12 @@ fn judge_write(
     room: usize,
     order: u32,
 ) -> Ruling
-    ensures { λ r. ⌜ r ≡ judgeWrite (lentOf (now (fixed .entry)) (now (marks .entry)) (now (log .entry)) (now (stored .entry)) (now (tables .entry)) (now (online .entry)) (now (pool .entry))) (now (list .entry)) room order ⌝ }
+    ensures { λ r. ⌜ r ≡ judgeWrite (before fixed marks log stored tables online pool) (now (list .entry)) room order ⌝ }
 {
     if !sound::is_sound(fixed, marks, log, stored, tables, online, pool) {
         return Ruling::Refuse(Why::Store(Refusal::NotSound));
     }
-    let given = durable::params_of(fixed);
+    let given = layout::params_of(fixed);
     may_write(given.size as usize, given.pages as u32, list, room, order)
 }
 
@@ -97,7 +97,7 @@ fn put_image(g: &mut [u8], stored: &[u8], size: usize, p: PageNo, online: &[u8],
 {
     let a = p.0 * size;
     let e = a + size;
-    frames::copy(g, &stored[a..e]);
+    fill::copy(g, &stored[a..e]);
     apply::fold(online, 0, m, p, true, g);
 }
 
@@ -227,7 +227,7 @@ pub extern "C" fn ventarico_wal_write(
     sequence: u32,
     order: u32,
 ) -> Reply
-    ensures { λ r. ⌜ record { reply = r; target = now (target .exit) } ≡ writeCall (lentOf (now (fixed .entry)) (now (marks .entry)) (now (log .entry)) (now (stored .entry)) (now (tables .entry)) (now (online .entry)) (now (pool .entry))) (now (list .entry)) (now (target .entry)) «salt_1» «salt_2» sequence order ⌝ }
+    ensures { λ r. ⌜ record { reply = r; target = now (target .exit) } ≡ writeCall (before fixed marks log stored tables online pool) (now (list .entry)) (now (target .entry)) «salt_1» «salt_2» sequence order ⌝ }
 {
     let room = target.len();
     let v = judge_write(
@@ -245,7 +245,7 @@ pub extern "C" fn ventarico_wal_write(
     match v {
         Ruling::Refuse(why) => refused(why),
         Ruling::Go => {
-            let given = durable::params_of(fixed);
+            let given = layout::params_of(fixed);
             let m = word::load(tables, 0, 2) as usize;
             write_log(
                 target,

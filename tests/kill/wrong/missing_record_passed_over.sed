@@ -1,2 +1,2 @@
 # doors: a record that was synced is missing, and what follows is dropped in silence.
-s/ || one_is_missing(f, journal))$/)/
+/^static bool judge_in_use/,/^}/s/one_is_missing(f, journal)/false/

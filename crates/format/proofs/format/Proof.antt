@@ -11,14 +11,14 @@ write-fixed-requires c κs = search needs
 write-marks-requires : tie.Need-write-marks-requires
 write-marks-requires c κs = search needs
 
-clear-requires : tie.Need-clear-requires
-clear-requires c κs = search needs
+wipe-requires : tie.Need-wipe-requires
+wipe-requires c κs = search needs
 
-clear-requires-2 : tie.Need-clear-requires-2
-clear-requires-2 c κs = search needs
+wipe-requires-2 : tie.Need-wipe-requires-2
+wipe-requires-2 c κs = search needs
 
-clear-requires-3 : tie.Need-clear-requires-3
-clear-requires-3 c κs = search needs
+wipe-requires-3 : tie.Need-wipe-requires-3
+wipe-requires-3 c κs = search needs
 
 same-length : tie.Need-same-length
 same-length c = search needs
@@ -42,9 +42,9 @@ returns c =
     _ _ _ _ _ (a .g) (a .last)
     (c .before .before .before .before .before .before .before .before .before .before .before .before .before .before .before .before .before .before .write-fixed .ensures)
     (c .before .before .before .before .before .before .before .before .before .before .before .before .before .before .write-marks .ensures)
-    (c .before .before .before .before .before .before .before .before .before .before .clear .ensures)
-    (c .before .before .before .before .before .before .clear2 .ensures)
-    (c .before .before .clear3 .ensures)
+    (c .before .before .before .before .before .before .before .before .before .before .wipe .ensures)
+    (c .before .before .before .before .before .before .wipe2 .ensures)
+    (c .before .before .wipe3 .ensures)
 
 pub format-spec : {M : Type 1} → statement M
 format-spec =
@@ -52,9 +52,9 @@ format-spec =
     (tie.spec
     write-fixed-requires
     write-marks-requires
-    clear-requires
-    clear-requires-2
-    clear-requires-3
+    wipe-requires
+    wipe-requires-2
+    wipe-requires-3
     same-length
     same-length-2
     same-length-3

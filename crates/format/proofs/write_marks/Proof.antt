@@ -5,8 +5,8 @@ use Rattle.format.proofs.Laws.{marks-made}
 use Rattle.format.proofs.write_marks.Statement.{statement}
 use Rattle.format.proofs.write_marks.Tie as tie
 
-clear-requires : tie.Need-clear-requires
-clear-requires c κs = search needs
+wipe-requires : tie.Need-wipe-requires
+wipe-requires c κs = search needs
 
 store-requires : tie.Need-store-requires
 store-requires c κs = search needs
@@ -23,7 +23,7 @@ same-length c = search needs
 returns : tie.Need-returns
 returns c =
     marks-made _ _ (now (c .before .before .before .before .before .before .before .before .before .before .before .before .before .before .before .before .before .args .marks)) _ _ _ _
-    (c .before .before .before .before .before .before .before .before .before .before .before .before .before .before .clear .ensures)
+    (c .before .before .before .before .before .before .before .before .before .before .before .before .before .before .wipe .ensures)
     (c .before .before .before .before .before .before .before .before .before .before .store .ensures)
     (c .before .before .before .before .before .before .store2 .ensures)
     (c .before .before .stamp-all .ensures)
@@ -32,7 +32,7 @@ pub write-marks-spec : {M : Type 1} → statement M
 write-marks-spec =
     tie.close
     (tie.spec
-    clear-requires
+    wipe-requires
     store-requires
     store-requires-2
     stamp-all-requires

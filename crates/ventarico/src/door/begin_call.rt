@@ -23,7 +23,7 @@ pub extern "C" fn ventarico_begin(
     match v {
         Verdict::Refuse(why) => crate::answer::refused(why),
         Verdict::Go => {
-            steps::begin::begin(marks, tables, number);
+            steps::begin::begin(fixed, marks, log, stored, tables, online, pool, number);
             crate::answer::done(0, 0, 0)
         }
     }

@@ -24,8 +24,8 @@ pub extern "C" fn ventarico_evict(
     match v {
         Verdict::Refuse(why) => crate::answer::refused(why),
         Verdict::Go => {
-            let given = layout::params_of(fixed);
-            steps::evict::evict(tables, given.frames as usize, PageNo(page as usize));
+            let p = PageNo(page as usize);
+            steps::evict::evict(fixed, marks, log, stored, tables, online, pool, p);
             crate::answer::done(0, 0, 0)
         }
     }

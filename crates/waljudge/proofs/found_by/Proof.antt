@@ -1,21 +1,14 @@
 use Rattle.wal.proofs.Opens.{good-parts, good-size}
 use Rattle.waljudge.proofs.Passes.{found-none, found-some}
-use borrow.Author.Needs.{needs}
 use Rattle.waljudge.proofs.found_by.Statement.{statement}
 use Rattle.waljudge.proofs.found_by.Tie as tie
-use Rattle.waljudge.proofs.found_by.Reads as reads
-use Rattle.waljudge.proofs.found_by.Lts as lts
-use Rattle.waljudge.proofs.pass_over.Reads as pass-over-reads
 
--- src/lib.rt:123:9
 pass-over-requires : tie.Need-pass-over-requires
 pass-over-requires c κs = (good-parts _ _ (c .before .pre) .0, good-size _ _ (c .before .pre) .1)
 
--- src/lib.rt:119:1
 returns : tie.Need-returns
 returns c = found-none _ _ _ _ (c .before .before .pass-over .ensures) (c .if1 .taken)
 
--- src/lib.rt:119:1
 returns-2 : tie.Need-returns-2
 returns-2 c = found-some _ _ _ _ (c .before .before .pass-over .ensures) (c .if1 .left)
 

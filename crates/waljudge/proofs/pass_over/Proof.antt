@@ -1,6 +1,6 @@
 use native.Mathlib.Omega.{arith}
-use Prim.Native.Nat.{_+_, _-_, _≤_, _<_}
-use mathlib.Core.Path.{_≡_, refl}
+use Prim.Native.Nat.{_-_, _≤_, _<_}
+use mathlib.Core.Path.{_≡_}
 use lib.ListN.{length}
 use Rattle.wal.specs.Layout.{framesFrom, validFrames}
 use Rattle.waljudge.specs.Pass.{started, passed}
@@ -8,10 +8,6 @@ use Rattle.waljudge.proofs.Turns.{turn, turn-few, stop, done}
 use borrow.Author.Needs.{needs}
 use Rattle.waljudge.proofs.pass_over.Statement.{statement}
 use Rattle.waljudge.proofs.pass_over.Tie as tie
-use Rattle.waljudge.proofs.pass_over.Reads as reads
-use Rattle.waljudge.proofs.pass_over.Lts as lts
-use Rattle.wal.proofs.open.look.Reads as look-reads
-use Rattle.waljudge.proofs.Pass.with.Reads as with-reads
 
 abbrev Inv-loop : tie.InvT-loop
 Inv-loop file h page size w at₀ sums₀ a₀ at sums a = (a .frames < at) × (at ≤ length file) × (passed page (h .size) (framesFrom h file (length file - a .frames) at sums) a ≡ passed page (h .size) (validFrames h file) started)
@@ -19,69 +15,53 @@ Inv-loop file h page size w at₀ sums₀ a₀ at sums a = (a .frames < at) × (
 abbrev μ-loop : tie.MeasureT-loop
 μ-loop file h page size w at₀ sums₀ a₀ at sums a = length file - at
 
--- src/lib.rt:72:13
 add-w : tie.Need-add-w Inv-loop μ-loop
 add-w c = search needs
 
--- src/lib.rt:81:5
 loop-holds : tie.Need-loop-holds Inv-loop μ-loop
 unfolding validFrames
 loop-holds c = (search needs, search needs, let n : length (c .before .before .args .file .now) - 0 ≡ length (c .before .before .args .file .now) = omega arith in rw n)
 
--- src/lib.rt:81:16
 sub-loop : tie.Need-sub-loop Inv-loop μ-loop
 sub-loop c = search needs
 
--- src/lib.rt:82:17
 add-e : tie.Need-add-e Inv-loop μ-loop
 add-e c = search needs
 
--- src/lib.rt:83:31
 sub-look : tie.Need-sub-look Inv-loop μ-loop
 sub-look c = search needs
 
--- src/lib.rt:83:31
 part-look-start : tie.Need-part-look-start Inv-loop μ-loop
 part-look-start c = search needs
 
--- src/lib.rt:83:31
 part-look-end : tie.Need-part-look-end Inv-loop μ-loop
 part-look-end c = search needs
 
--- src/lib.rt:83:15
 look-requires : tie.Need-look-requires Inv-loop μ-loop
 look-requires c κs = search needs
 
--- src/lib.rt:85:17
 enum-told : tie.Need-enum-told Inv-loop μ-loop
 enum-told c = search needs
 
--- src/lib.rt:85:17
 returns : tie.Need-returns Inv-loop μ-loop
 returns c = stop _ _ _ _ _ _ _ _ (c .before .before .look .ensures) (c .enum-told .given .1) (c .before .before .before .before .before .loop .inv .2)
 
--- src/lib.rt:87:25
 enum-known-p : tie.Need-enum-known-p Inv-loop μ-loop
 enum-known-p c = search needs
 
--- src/lib.rt:88:39
 add-with : tie.Need-add-with Inv-loop μ-loop
 add-with c = search needs
 
--- src/lib.rt:88:17
 with-requires : tie.Need-with-requires Inv-loop μ-loop
 with-requires c κs = search needs
 
--- src/lib.rt:81:5
 loop-less : tie.Need-loop-less Inv-loop μ-loop
 loop-less c = search needs
 
--- src/lib.rt:81:5
 loop-again : tie.Need-loop-again Inv-loop μ-loop
 loop-again c = let o = c .before .before .before .before .before .before .before .loop .inv in
     (turn-few _ _ _ _ _ _ _ _ (o .0) (omega arith) (c .with .ensures), search needs, turn _ _ _ _ _ _ _ _ _ _ _ _ (o .0) (o .1) (c .before .before .before .before .before .before .loop-test .taken) (c .before .before .before .before .look .ensures) (c .before .before .p .given .1) (c .with .ensures) (o .2))
 
--- src/lib.rt:67:1
 returns-2 : tie.Need-returns-2 Inv-loop μ-loop
 returns-2 c = done _ _ _ _ _ _ _ (c .before .loop .inv .1) (c .loop-test .left) (c .before .loop .inv .2)
 

@@ -4,49 +4,34 @@ use Rattle.waljudge.proofs.Passes.{find-by, find-zero}
 use borrow.Author.Needs.{needs}
 use Rattle.waljudge.proofs.ventarico_wal_find.Statement.{statement}
 use Rattle.waljudge.proofs.ventarico_wal_find.Tie as tie
-use Rattle.waljudge.proofs.ventarico_wal_find.Reads as reads
-use Rattle.waljudge.proofs.ventarico_wal_find.Lts as lts
-use Rattle.rules.proofs.answered.Reads as answered-reads
-use Rattle.wal.proofs.open.open.Reads as open-reads
-use Rattle.waljudge.proofs.found_by.Reads as found-by-reads
 
--- src/lib.rt:158:13
 answered-requires : tie.Need-answered-requires
 answered-requires c κs = search needs
 
--- src/lib.rt:159:9
 returns : tie.Need-returns
 returns c = find-zero _ _ _ (c .before .if1 .taken) (ap (λ (x : Reply). x .code) (c .answered .ensures))
 
--- src/lib.rt:165:11
 open-requires : tie.Need-open-requires
 open-requires c κs = search needs
 
--- src/lib.rt:166:22
 enum-known-h : tie.Need-enum-known-h
 enum-known-h c = search needs
 
--- src/lib.rt:166:28
 found-by-requires : tie.Need-found-by-requires
 found-by-requires c κs = sym (c .before .before .before .«open» .ensures) ∙ c .before .h .given .1
 
--- src/lib.rt:167:30
 enum-told : tie.Need-enum-told
 enum-told c = search needs
 
--- src/lib.rt:172:27
 enum-told-2 : tie.Need-enum-told-2
 enum-told-2 c = search needs
 
--- src/lib.rt:153:1
 returns-2 : tie.Need-returns-2
 returns-2 c = find-by _ _ _ _ _ (c .before .before .before .before .before .if1 .left) (c .before .before .before .before .«open» .ensures) (c .before .before .h .given .1) (c .found-by .ensures)
 
--- src/lib.rt:153:1
 returns-3 : tie.Need-returns-3
 returns-3 c = find-by _ _ _ _ _ (c .before .before .before .if1 .left) (c .before .before .«open» .ensures) (c .enum-told .given .1) refl
 
--- src/lib.rt:153:1
 returns-4 : tie.Need-returns-4
 returns-4 c = find-by _ _ _ _ _ (c .before .before .before .if1 .left) (c .before .before .«open» .ensures) (c .enum-told2 .given .1) refl
 

@@ -1,22 +1,16 @@
 use native.Mathlib.Omega.{arith}
-use mathlib.Core.Path.{_≡_, sym, ap, _∙_}
+use mathlib.Core.Path.{ap, _∙_}
 use denote.Ref.{now}
 use Rattle.word.proofs.Tests.{so}
 use Rattle.rules.specs.Lent.{Lent, lentOf}
 use Rattle.rules.specs.Shape.{Shaped}
 use Rattle.rules.specs.Sound.{sound}
 use Rattle.sound.proofs.Laws.{sound-shaped}
-use Rattle.walwrite.specs.declared.Ruling.{Ruling}
 use Rattle.walwrite.specs.Write.{mayWrite}
 use Rattle.walwrite.proofs.Laws.{judge-unsound, judge-sound}
 use borrow.Author.Needs.{needs}
 use Rattle.walwrite.proofs.judge_write.Statement.{statement}
 use Rattle.walwrite.proofs.judge_write.Tie as tie
-use Rattle.walwrite.proofs.judge_write.Reads as reads
-use Rattle.walwrite.proofs.judge_write.Lts as lts
-use Rattle.durable.proofs.params_of.Reads as params-of-reads
-use Rattle.sound.proofs.is_sound.Reads as is-sound-reads
-use Rattle.walwrite.proofs.may_write.Reads as may-write-reads
 
 -- the lent bytes
 abbrev lent : tie.After-is-sound → Lent
@@ -27,31 +21,25 @@ lent k =
 shaped : (k : tie.Else1) → Shaped (lent (k .before))
 shaped k = sound-shaped (lent (k .before)) (so _ _ (k .before .is-sound .ensures) (k .if1 .left))
 
--- src/lib.rt:86:9
 is-sound-requires : tie.Need-is-sound-requires
 is-sound-requires c κs = search needs
 
--- src/lib.rt:87:9
 returns : tie.Need-returns
 returns c = judge-unsound (lent (c .before)) _ _ _ _ (c .before .is-sound .ensures) (c .if1 .taken)
 
--- src/lib.rt:89:9
 params-of-requires : tie.Need-params-of-requires
 params-of-requires c κs = shaped c .sized .fixed
 
--- src/lib.rt:90:36
 cast-may-write : tie.Need-cast-may-write
-cast-may-write c = omega (arith, shaped (c .before .before) .sized .pages, c .before .params-of .ensures .1)
+cast-may-write c = omega (arith, shaped (c .before .before) .sized .pages, c .before .params-of .ensures .pages)
 
--- src/lib.rt:90:5
 may-write-requires : tie.Need-may-write-requires
-may-write-requires c κs = omega (arith, shaped (c .before .before) .sized .size, c .before .params-of .ensures .0)
+may-write-requires c κs = omega (arith, shaped (c .before .before) .sized .size, c .before .params-of .ensures .size)
 
--- src/lib.rt:72:1
 returns-2 : tie.Need-returns-2
 returns-2 c = let p = c .before .before .params-of .ensures in
     let a = c .before .before .before .before .before .before .before .before .before .before .before .before .before .args in
-    judge-sound (lent (c .before .before .before .before)) _ _ _ _ _ (c .before .before .before .before .is-sound .ensures) (c .before .before .before .if1 .left) (c .may-write .ensures ∙ (λ i. mayWrite (p .0 i) (p .1 i) (now (a .list)) (a .room) (a .order)))
+    judge-sound (lent (c .before .before .before .before)) _ _ _ _ _ (c .before .before .before .before .is-sound .ensures) (c .before .before .before .if1 .left) (c .may-write .ensures ∙ (λ i. mayWrite (p .size i) (p .pages i) (now (a .list)) (a .room) (a .order)))
 
 pub judge-write-spec : {M : Type 1} → statement M
 judge-write-spec =

@@ -1,37 +1,27 @@
-use mathlib.Core.Path.{refl, ap}
+use mathlib.Core.Path.{refl}
 use Rattle.walwrite.proofs.Laws.{refused-as}
 use borrow.Author.Needs.{needs}
 use Rattle.walwrite.proofs.refused.Statement.{statement}
 use Rattle.walwrite.proofs.refused.Tie as tie
-use Rattle.walwrite.proofs.refused.Reads as reads
-use Rattle.walwrite.proofs.refused.Lts as lts
-use Rattle.rules.proofs.answered.Reads as answered-reads
 
--- src/lib.rt:186:20
 enum-known-why : tie.Need-enum-known-why
 enum-known-why c = search needs
 
--- src/lib.rt:186:26
 answered-requires : tie.Need-answered-requires
 answered-requires c κs = search needs
 
--- src/lib.rt:187:29
 enum-told : tie.Need-enum-told
 enum-told c = search needs
 
--- src/lib.rt:194:27
 enum-told-2 : tie.Need-enum-told-2
 enum-told-2 c = search needs
 
--- src/lib.rt:182:1
 returns : tie.Need-returns
 returns c = refused-as _ _ _ (c .before .before .why .given .1) (c .answered .ensures)
 
--- src/lib.rt:182:1
 returns-2 : tie.Need-returns-2
 returns-2 c = refused-as _ _ _ (c .enum-told .given .1) refl
 
--- src/lib.rt:182:1
 returns-3 : tie.Need-returns-3
 returns-3 c = refused-as _ _ _ (c .enum-told2 .given .1) refl
 

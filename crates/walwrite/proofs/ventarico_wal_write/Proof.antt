@@ -6,19 +6,12 @@ use denote.Ref.{now}
 use Rattle.rules.specs.Lent.{Lent, lentOf, sizeOf, pagesOf}
 use Rattle.rules.specs.Shape.{Shaped}
 use Rattle.sound.proofs.Laws.{sound-shaped}
-use Rattle.walwrite.specs.declared.Ruling.the-variants.{Go, Refuse}
+use Rattle.walwrite.specs.declared.Ruling.the-variants.{Go}
 use Rattle.walwrite.specs.Write.{mayWrite, judgeWrite}
 use Rattle.walwrite.proofs.Laws.{judged-go, go-parts, write-asks, write-refused, write-done}
 use borrow.Author.Needs.{needs}
 use Rattle.walwrite.proofs.ventarico_wal_write.Statement.{statement}
 use Rattle.walwrite.proofs.ventarico_wal_write.Tie as tie
-use Rattle.walwrite.proofs.ventarico_wal_write.Reads as reads
-use Rattle.walwrite.proofs.ventarico_wal_write.Lts as lts
-use Rattle.durable.proofs.params_of.Reads as params-of-reads
-use Rattle.walwrite.proofs.judge_write.Reads as judge-write-reads
-use Rattle.walwrite.proofs.refused.Reads as refused-reads
-use Rattle.walwrite.proofs.write_log.Reads as write-log-reads
-use Rattle.word.proofs.load.Reads as load-reads
 
 abbrev start : tie.After-judge-write → tie.Start
 start j = j .before .before .before .before .before .before .before .before .before .before
@@ -38,60 +31,47 @@ shaped k = sound-shaped (lent (k .before .before)) (judged-go _ _ _ _ (went k) .
 may : (k : tie.After-enum-told) → let a = start (k .before .before) .args in mayWrite (sizeOf (lent (k .before .before))) (pagesOf (lent (k .before .before))) (now (a .list)) (length (now (a .target))) (a .order) ≡ Go
 may k = judged-go (lent (k .before .before)) _ _ _ (went k) .1
 
--- src/lib.rt:224:9
 judge-write-requires : tie.Need-judge-write-requires
 judge-write-requires c κs = search needs
 
--- src/lib.rt:237:24
 enum-known-v : tie.Need-enum-known-v
 enum-known-v c = search needs
 
--- src/lib.rt:237:32
 refused-requires : tie.Need-refused-requires
 refused-requires c κs = search needs
 
--- src/lib.rt:239:17
 enum-told : tie.Need-enum-told
 enum-told c = search needs
 
--- src/lib.rt:239:17
 params-of-requires : tie.Need-params-of-requires
 params-of-requires c κs = shaped c .sized .fixed
 
--- src/lib.rt:240:21
 load-requires : tie.Need-load-requires
 load-requires c κs = omega (arith, shaped (c .before) .sized .tables)
 
--- src/lib.rt:246:17
 cast-write-log : tie.Need-cast-write-log
-cast-write-log c = omega (arith, shaped (c .before .before .before .before) .sized .size, c .before .before .before .params-of .ensures .0)
+cast-write-log c = omega (arith, shaped (c .before .before .before .before) .sized .size, c .before .before .before .params-of .ensures .size)
 
--- src/lib.rt:247:17
 cast-write-log-2 : tie.Need-cast-write-log-2
-cast-write-log-2 c = omega (arith, shaped (c .before .before .before .before .before) .sized .pages, c .before .before .before .before .params-of .ensures .1)
+cast-write-log-2 c = omega (arith, shaped (c .before .before .before .before .before) .sized .pages, c .before .before .before .before .params-of .ensures .pages)
 
--- src/lib.rt:241:13
 write-log-requires : tie.Need-write-log-requires
 write-log-requires c κs = let p = c .before .before .before .before .params-of .ensures in
-    write-asks (lent (c .before .before .before .before .before .before .before)) _ _ _ _ _ _ (shaped (c .before .before .before .before .before)) (p .0) (p .1) (c .before .before .before .load .ensures .0) (may (c .before .before .before .before .before))
+    write-asks (lent (c .before .before .before .before .before .before .before)) _ _ _ _ _ _ (shaped (c .before .before .before .before .before)) (p .size) (p .pages) (c .before .before .before .load .ensures .0) (may (c .before .before .before .before .before))
 
--- src/lib.rt:257:24
 cast-t24 : tie.Need-cast-t24
 cast-t24 c = let p = go-parts _ _ _ _ _ (may (c .before .before .before .before .before .before .before .before)) in
     omega (arith, p .1)
 
--- src/lib.rt:205:1
 returns : tie.Need-returns
 returns c = write-refused (lent (c .before .before .before .before)) _ _ _ _ _ _ _ _ _ (c .before .before .before .before .judge-write .ensures) (c .before .before .v .given .1) (c .refused .ensures)
 
--- src/lib.rt:205:1
 same-length : tie.Need-same-length
 same-length c = search needs
 
--- src/lib.rt:205:1
 returns-2 : tie.Need-returns-2
 returns-2 c = let p = c .before .before .before .before .before .before .before .params-of .ensures in
-    write-done (lent (c .before .before .before .before .before .before .before .before .before .before)) _ _ _ _ _ _ _ _ _ _ (went (c .before .before .before .before .before .before .before .before)) (p .0) (p .1) (c .before .before .before .before .before .before .load .ensures .0) (c .before .before .write-log .ensures)
+    write-done (lent (c .before .before .before .before .before .before .before .before .before .before)) _ _ _ _ _ _ _ _ _ _ (went (c .before .before .before .before .before .before .before .before)) (p .size) (p .pages) (c .before .before .before .before .before .before .load .ensures .0) (c .before .before .write-log .ensures)
 
 pub ventarico-wal-write-spec : {M : Type 1} → statement M
 ventarico-wal-write-spec =

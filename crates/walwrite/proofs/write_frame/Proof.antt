@@ -4,44 +4,31 @@ use denote.Ref.{now}
 use borrow.Author.Needs.{needs}
 use Rattle.walwrite.proofs.write_frame.Statement.{statement}
 use Rattle.walwrite.proofs.write_frame.Tie as tie
-use Rattle.walwrite.proofs.write_frame.Reads as reads
-use Rattle.walwrite.proofs.write_frame.Lts as lts
-use Rattle.wal.proofs.write.write_fields.Reads as write-fields-reads
-use Rattle.walwrite.proofs.put_image.Reads as put-image-reads
 
--- src/lib.rt:119:15
 sub-put-image : tie.Need-sub-put-image
 sub-put-image c = search needs
 
--- src/lib.rt:119:15
 part-put-image-start : tie.Need-part-put-image-start
 part-put-image-start c = search needs
 
--- src/lib.rt:119:15
 part-put-image-end : tie.Need-part-put-image-end
 part-put-image-end c = search needs
 
--- src/lib.rt:119:5
 put-image-requires : tie.Need-put-image-requires
 put-image-requires c κs = search needs
 
--- src/lib.rt:120:39
 cast-write-fields : tie.Need-cast-write-fields
 cast-write-fields c = search needs
 
--- src/lib.rt:120:39
 add-write-fields : tie.Need-add-write-fields
 add-write-fields c = search needs
 
--- src/lib.rt:120:5
 write-fields-requires : tie.Need-write-fields-requires
 write-fields-requires c κs = search needs
 
--- src/lib.rt:105:1
 same-length : tie.Need-same-length
 same-length c = search needs
 
--- src/lib.rt:105:1
 returns : tie.Need-returns
 returns c = frame-image _ _ _ _ _ (now (c .before .before .before .before .before .before .before .before .before .before .before .before .args .f)) _ _ _ (omega (arith, c .before .before .before .before .before .before .before .before .before .before .before .before .pre .0)) (c .before .before .before .before .before .before .before .put-image .ensures) (c .before .before .write-fields .ensures)
 

@@ -8,14 +8,10 @@ use lib.ListN.{length, take, drop}
 use denote.Ref.{now}
 use Rattle.wal.specs.Written.{framesBytes}
 use Rattle.walwrite.specs.Image.{imageIn}
-use Rattle.walwrite.proofs.Laws.{room-turn, room-start, page-within, lent-frame, put-length, put-behind, frames-turn, frames-start, frames-done}
+use Rattle.walwrite.proofs.Laws.{room-turn, room-start, page-within, lent-frame, put-length, put-behind, frames-turn, frames-done}
 use borrow.Author.Needs.{needs}
 use Rattle.walwrite.proofs.write_frames.Statement.{statement}
 use Rattle.walwrite.proofs.write_frames.Tie as tie
-use Rattle.walwrite.proofs.write_frames.Reads as reads
-use Rattle.walwrite.proofs.write_frames.Lts as lts
-use Rattle.walwrite.proofs.commit_of.Reads as commit-of-reads
-use Rattle.walwrite.proofs.write_frame.Reads as write-frame-reads
 
 abbrev Inv-loop : tie.InvT-loop
 Inv-loop target₀ h stored online m list count w n at₀ sums₀ i₀ target at sums i = (i ≤ length list) × (at + (length list - i) * (24 + h .size) ≤ length target₀) × (length target ≡ length target₀) × (take at target ++ framesBytes h (imageIn (h .size) stored online m) count (drop i list) sums ≡ take 32 target₀ ++ framesBytes h (imageIn (h .size) stored online m) count list (h .sums)) × (drop at target ≡ drop at target₀)
@@ -23,54 +19,42 @@ Inv-loop target₀ h stored online m list count w n at₀ sums₀ i₀ target at
 abbrev μ-loop : tie.MeasureT-loop
 μ-loop target₀ h stored online m list count w n at₀ sums₀ i₀ target at sums i = length list - i
 
--- src/lib.rt:146:13
 add-w : tie.Need-add-w Inv-loop μ-loop
 add-w c = search needs
 
--- src/lib.rt:151:5
 loop-holds : tie.Need-loop-holds Inv-loop μ-loop
 loop-holds c = (search needs, room-start (length (now (c .before .before .before .before .before .before .args .list))) (24 + c .before .before .before .before .before .before .args .h .size) _ (c .before .before .before .before .before .before .pre .0), refl, refl, refl)
 
--- src/lib.rt:152:17
 add-e : tie.Need-add-e Inv-loop μ-loop
 add-e c = let r = room-turn _ _ _ _ _ (c .loop-test .taken) (c .before .loop .inv .1) in
     omega arith
 
--- src/lib.rt:153:17
 mul-p : tie.Need-mul-p Inv-loop μ-loop
 mul-p c = search needs
 
--- src/lib.rt:153:17
 shared-slice-read-p : tie.Need-shared-slice-read-p Inv-loop μ-loop
 shared-slice-read-p c = search needs
 
--- src/lib.rt:153:17
 cast-p : tie.Need-cast-p Inv-loop μ-loop
 cast-p c = omega (arith, c .shared-slice-known4 .given (c .before .before .loop .i))
 
--- src/lib.rt:154:32
 add-commit-of : tie.Need-add-commit-of Inv-loop μ-loop
 add-commit-of c = search needs
 
--- src/lib.rt:154:13
 commit-of-requires : tie.Need-commit-of-requires Inv-loop μ-loop
 commit-of-requires c κs = search needs
 
--- src/lib.rt:155:28
 sub-write-frame : tie.Need-sub-write-frame Inv-loop μ-loop
 sub-write-frame c = search needs
 
--- src/lib.rt:155:28
 part-write-frame-start : tie.Need-part-write-frame-start Inv-loop μ-loop
 part-write-frame-start c = search needs
 
--- src/lib.rt:155:28
 part-write-frame-end : tie.Need-part-write-frame-end Inv-loop μ-loop
 part-write-frame-end c = let o = c .before .before .before .loop .inv in
     let r = room-turn _ _ _ _ _ (c .before .before .loop-test .taken) (o .1) in
     search needs
 
--- src/lib.rt:155:9
 write-frame-requires : tie.Need-write-frame-requires Inv-loop μ-loop
 write-frame-requires c κs = let b = c .before .before .before .before in
     let a = c .before .before .before .before .before .before .before .before .before .before .before in
@@ -80,15 +64,12 @@ write-frame-requires c κs = let b = c .before .before .before .before in
     let k : b .loop .at + (24 + a .args .h .size) ≤ length (b .loop .target) = omega arith in
     (lent-frame (b .loop .target) (b .loop .at) (24 + a .args .h .size) k, omega (arith, p .0, a .pre .2), p .1, a .pre .4)
 
--- src/lib.rt:157:9
 add-i : tie.Need-add-i Inv-loop μ-loop
 add-i c = search needs
 
--- src/lib.rt:151:5
 loop-less : tie.Need-loop-less Inv-loop μ-loop
 loop-less c = search needs
 
--- src/lib.rt:151:5
 loop-again : tie.Need-loop-again Inv-loop μ-loop
 loop-again c = let b = c .before .before .before .before .before .before .before in
     let a = c .before .before .before .before .before .before .before .before .before .before .before .before .before .before .args in
@@ -107,11 +88,9 @@ loop-again c = let b = c .before .before .before .before .before .before .before
       put-behind t ys at w n k (now (a .target)) (o .4),
     )
 
--- src/lib.rt:134:1
 same-length : tie.Need-same-length Inv-loop μ-loop
 same-length c = search needs
 
--- src/lib.rt:134:1
 returns : tie.Need-returns Inv-loop μ-loop
 returns c = let o = c .before .loop .inv in
     let a = c .before .before .before .before .before .before .before .before .args in

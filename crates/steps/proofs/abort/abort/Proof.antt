@@ -1,58 +1,40 @@
--- `steps::abort::abort` meets its contract: the tables are written in the order in which its setters nest.
-use mathlib.Core.Path.{_∙_}
-use mathlib.Core.Bool.{true}
-use lib.ListN.{getD, length-set}
-use denote.Ref.{now}
-use Rattle.record.specs.Part.{part}
-use Rattle.record.specs.Rows.{rows, keep}
-use Rattle.record.specs.Record.{ownedBy}
-use Rattle.table.specs.Stays.{stays}
-use Rattle.table.specs.Before.{start}
-use Rattle.steps.proofs.Laws.{abort-written}
+-- `steps::abort::abort` meets its contract: sizes and count are those of the lent bytes, and of all the areas the tables and the online rows alone change.
+use native.Mathlib.Omega.{arith}
+use Rattle.rules.specs.Areas.{areas}
+use Rattle.rules.specs.Steps.{lostNow, aborted}
 use borrow.Author.Needs.{needs}
 use Rattle.steps.proofs.abort.abort.Statement.{statement}
 use Rattle.steps.proofs.abort.abort.Tie as tie
 
-take-pages-requires : tie.Need-take-pages-requires
-take-pages-requires c κs = search needs
+params-of-requires : tie.Need-params-of-requires
+params-of-requires c κs = c .before .before .before .before .before .before .before .pre .0 .sized .fixed
 
-delete-requires : tie.Need-delete-requires
-delete-requires c κs = (search needs, search needs, search needs, search needs, start, start)
+load-requires : tie.Need-load-requires
+load-requires c κs = search needs
 
-store-requires : tie.Need-store-requires
-store-requires c κs = search needs
-
-add-at : tie.Need-add-at
-add-at c = search needs
-
-slice-write-tables : tie.Need-slice-write-tables
-slice-write-tables c = search needs
+take-back-requires : tie.Need-take-back-requires
+take-back-requires c κs =
+    let s = c .before .before .before .before .before .before .before .before .before .before .before .before in
+    let g = c .before .before .before .before .params-of .ensures in
+    omega (arith, g .frames, g .online, c .before .before .load .ensures .0, s .pre .0, s .pre .1)
 
 same-length : tie.Need-same-length
-same-length c = simp length-set (c .before .before .store .kept .0 ∙ c .before .before .before .before .before .before .before .before .before .before .take-pages .kept .0)
+same-length c = search needs
 
 same-length-2 : tie.Need-same-length-2
 same-length-2 c = search needs
 
 returns : tie.Need-returns
+unfolding aborted
 returns c =
-    let a = c .before .before .before .before .before .before .before .before .before .before .before .before .before .before .before .args in
-    let t = now (a .tables) in
-    let rs = rows 19 (a .m) (now (a .online)) 0 in
-    let p = c .before .before .before .before .before .before .before .before .before .before .take-pages in
-    let d = c .before .before .before .before .before .before .delete in
-    let s = c .before .before .store in
-    (abort-written (a .owner) (a .frames) (d .result) (keep (stays true (a .owner) 0) rs) (keep (ownedBy (a .owner)) rs) t (p .last .0) (s .last .0) (part 35 (getD t 2 0) t) (p .ensures) (s .ensures) (d .ensures .1), d .ensures .0)
+    let a = c .before .before .before .before .before .before .before .before .before .before .before .before .before .before .before .before .before .args in
+    let s = areas (a .fixed) (a .marks) (a .log) (a .stored) (a .tables) (a .online) (a .pool) in
+    let g = c .before .before .before .before .before .before .before .before .before .params-of .ensures in
+    let m = c .before .before .before .before .before .before .before .load .ensures .0 in
+    let did = c .before .before .before .before .take-back .ensures in
+    let tables = rw (g .frames, m) at (did .0) in
+    let online = rw (g .online, m) at (did .1) in
+    λ i. lostNow s (tables i) (online i) (s .lost .pool)
 
 pub abort-spec : {M : Type 1} → statement M
-abort-spec =
-    tie.close
-    (tie.spec
-    take-pages-requires
-    delete-requires
-    store-requires
-    add-at
-    slice-write-tables
-    same-length
-    same-length-2
-    returns)
+abort-spec = tie.close (tie.spec params-of-requires load-requires take-back-requires same-length same-length-2 returns)

@@ -50,6 +50,7 @@ use Rattle.clerk.proofs.Clerk.abort as callee
 use Rattle.clerk.proofs.Clerk.abort.Symbol as callee-def
 use Rattle.clerk.proofs.Clerk.abort.Symbol.{name as #callee}
 use Rattle.clerk.proofs.Clerk.abort.Met as callee-thm
+use Rattle.ventarico.proofs.Clerks.{mach, code-small, state-is}
 use Rattle.ventarico.proofs.clerk_call.ventarico_clerk_abort.Key.{name as #self}
 use Rattle.ventarico.proofs.clerk_call.ventarico_clerk_abort as self
 use Rattle.ventarico.proofs.clerk_call.ventarico_clerk_abort.Statement as stated
@@ -64,10 +65,6 @@ stayed = (stay-ref (0 ∷ []) tt (plain (λ _. T.the-row)), (stay-none (λ _. u3
 -- the contract that the proof cites
 abbrev Callee : {M : Type 1} (𝓤 : URA M) (H : Heap 𝓤) (A : Atoms 𝓤) (at-mem : Memory → SProp 𝓤) (run : Routine → Fun 𝓤) → Contract 𝓤
 Callee 𝓤 H A at-mem run = tripleOf 𝓤 H A callee.signature (callee.spec 𝓤 H A at-mem run)
-
--- the machine value of a Clerk
-abbrev mach : Clerk → Val
-mach h = LL.val T.the-type T′.the-laws h
 
 module _ {M : Type 1} (𝓤 : URA M) (H : Heap 𝓤) (A : Atoms 𝓤) (W : Given 𝓤 H A) (at-mem : Memory → SProp 𝓤) (run : Routine → Fun 𝓤) (κ : Lft) (q : Share) (b o : ℕ) (γ : GName) (h : Clerk) (n1 : ℕ) (f1 : n1 < 2 ^ 32) where
   abbrev x : Arg
@@ -102,14 +99,6 @@ module _ {M : Type 1} (𝓤 : URA M) (H : Heap 𝓤) (A : Atoms 𝓤) (W : Given
       says ! (ap (λ (z : Ruled). z .code) e, ap (λ (z : Ruled). z .clerk) e) $ nothing ! $ move ! (3 ∷ 0 ∷ []) $ join ! $
       frame ! $ feqI ! (List Val) (vptr b o ∷ []) (vptr b o ∷ []) refl $ fjoin3 ! $ nothing ! $ owned ! u32 (Is u32) (uint-makes 𝓤 H A W w32) n1 _ (refl, f1) $ fjoin ! $ move ! (1 ∷ 0 ∷ []) $ fjoin ! $
       frame ! $ owned ! u8 (Is u8) (uint-makes 𝓤 H A W w8) (r .code) _ (refl, code-fits) $ done !
-
-  -- what whoever holds a Ruled knows of its fields
-  module _ (r : Ruled) (v : Val) (is : Is B.the-row r (v ∷ [])) where
-    code-small : r .code < 2 ^ 8
-    code-small = LL.owed B.the-type B′.the-laws r (v ∷ []) is .0 .1
-
-    state-is : Is T.the-row (r .clerk) (mach (r .clerk) ∷ [])
-    state-is = LL.owed B.the-type B′.the-laws r (v ∷ []) is .1 .0
 
   module _ (C : Calls 𝓤 H) (Λ : Loops 𝓤 H) (fm : FmC 𝓤 H (W .laws) C) (known : Triple 𝓤 (C #callee) (Callee 𝓤 H A at-mem run)) where
     walk : ent 𝓤 (onEntry 𝓤 H A self.signature (κ, tt) (q, tt) x at) (WpFn 𝓤 H C Λ code.function (vptr b o ∷ vint w32 n1 ∷ []) Post)

@@ -2,27 +2,19 @@ use Rattle.wal.proofs.Laws.{pair-wrapped}
 use borrow.Author.Needs.{needs}
 use Rattle.wal.proofs.Sums.with_pair.Statement.{statement}
 use Rattle.wal.proofs.Sums.with_pair.Tie as tie
-use Rattle.wal.proofs.Sums.with_pair.Reads as reads
-use Rattle.wal.proofs.Sums.with_pair.Lts as lts
-use Rattle.std.proofs.num.wrapping_add_u32.Reads as wrapping-add-u32-reads
 
--- src/lib.rt:64:44
 wrapping-add-u32-requires : tie.Need-wrapping-add-u32-requires
 wrapping-add-u32-requires c κs = search needs
 
--- src/lib.rt:64:13
 wrapping-add-u32-requires-2 : tie.Need-wrapping-add-u32-requires-2
 wrapping-add-u32-requires-2 c κs = search needs
 
--- src/lib.rt:65:44
 wrapping-add-u32-requires-3 : tie.Need-wrapping-add-u32-requires-3
 wrapping-add-u32-requires-3 c κs = search needs
 
--- src/lib.rt:65:13
 wrapping-add-u32-requires-4 : tie.Need-wrapping-add-u32-requires-4
 wrapping-add-u32-requires-4 c κs = search needs
 
--- src/lib.rt:61:5
 returns : tie.Need-returns
 returns c = pair-wrapped _ _ _ _ _ _ _ (c .before .before .before .wrapping-add-u32 .ensures) (c .before .before .wrapping-add-u322 .ensures) (c .before .wrapping-add-u323 .ensures) (c .wrapping-add-u324 .ensures)
 

@@ -2,19 +2,13 @@ use Rattle.wal.proofs.Opens.{frame-sums-as}
 use borrow.Author.Needs.{needs}
 use Rattle.wal.proofs.open.frame_sums.Statement.{statement}
 use Rattle.wal.proofs.open.frame_sums.Tie as tie
-use Rattle.wal.proofs.open.frame_sums.Reads as reads
-use Rattle.wal.proofs.open.frame_sums.Lts as lts
-use Rattle.wal.proofs.sum.Reads as sum-reads
 
--- src/open.rt:98:9
 sum-requires : tie.Need-sum-requires
 sum-requires c κs = search needs
 
--- src/open.rt:99:5
 sum-requires-2 : tie.Need-sum-requires-2
 sum-requires-2 c κs = search needs
 
--- src/open.rt:94:1
 returns : tie.Need-returns
 returns c = frame-sums-as _ _ _ _ _ (c .before .before .sum .ensures) (c .sum2 .ensures)
 

@@ -2,36 +2,25 @@ use Rattle.wal.proofs.Opens.{head-as}
 use borrow.Author.Needs.{needs}
 use Rattle.wal.proofs.open.head_in.Statement.{statement}
 use Rattle.wal.proofs.open.head_in.Tie as tie
-use Rattle.wal.proofs.open.head_in.Reads as reads
-use Rattle.wal.proofs.open.head_in.Lts as lts
-use Rattle.wal.proofs.field_at.Reads as field-at-reads
-use Rattle.wal.proofs.sum.Reads as sum-reads
 
--- src/open.rt:42:15
 field-at-requires : tie.Need-field-at-requires
 field-at-requires c κs = search needs
 
--- src/open.rt:43:16
 field-at-requires-2 : tie.Need-field-at-requires-2
 field-at-requires-2 c κs = search needs
 
--- src/open.rt:43:16
 cast-size : tie.Need-cast-size
 cast-size c = search needs
 
--- src/open.rt:44:9
 field-at-requires-3 : tie.Need-field-at-requires-3
 field-at-requires-3 c κs = search needs
 
--- src/open.rt:45:9
 field-at-requires-4 : tie.Need-field-at-requires-4
 field-at-requires-4 c κs = search needs
 
--- src/open.rt:46:9
 sum-requires : tie.Need-sum-requires
 sum-requires c κs = search needs
 
--- src/open.rt:38:1
 returns : tie.Need-returns
 returns c = head-as _ _ _ _ _ _ (c .before .before .before .before .field-at .ensures) (c .before .before .before .field-at2 .ensures) (c .before .before .field-at3 .ensures) (c .before .field-at4 .ensures) (c .sum .ensures)
 

@@ -2,19 +2,13 @@ use mathlib.Core.Path.{refl}
 use borrow.Author.Needs.{needs}
 use Rattle.wal.proofs.open.holds_salts.Statement.{statement}
 use Rattle.wal.proofs.open.holds_salts.Tie as tie
-use Rattle.wal.proofs.open.holds_salts.Reads as reads
-use Rattle.wal.proofs.open.holds_salts.Lts as lts
-use Rattle.wal.proofs.field_at.Reads as field-at-reads
 
--- src/open.rt:88:9
 field-at-requires : tie.Need-field-at-requires
 field-at-requires c κs = search needs
 
--- src/open.rt:89:9
 field-at-requires-2 : tie.Need-field-at-requires-2
 field-at-requires-2 c κs = search needs
 
--- src/open.rt:84:1
 returns : tie.Need-returns
 returns c = rw (c .before .before .before .field-at .ensures, c .before .before .field-at2 .ensures) refl
 

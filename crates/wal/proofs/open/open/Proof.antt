@@ -2,37 +2,25 @@ use Rattle.wal.proofs.Opens.{open-short, open-bad, open-sum, open-good}
 use borrow.Author.Needs.{needs}
 use Rattle.wal.proofs.open.open.Statement.{statement}
 use Rattle.wal.proofs.open.open.Tie as tie
-use Rattle.wal.proofs.open.open.Reads as reads
-use Rattle.wal.proofs.open.open.Lts as lts
-use Rattle.wal.proofs.open.head_in.Reads as head-in-reads
-use Rattle.wal.proofs.open.holds_sums.Reads as holds-sums-reads
-use Rattle.wal.proofs.open.is_header.Reads as is-header-reads
 
--- src/open.rt:71:9
 returns : tie.Need-returns
 returns c = open-short _ (c .if1 .taken)
 
--- src/open.rt:73:9
 is-header-requires : tie.Need-is-header-requires
 is-header-requires c κs = search needs
 
--- src/open.rt:74:9
 returns-2 : tie.Need-returns-2
 returns-2 c = open-bad _ _ (c .before .is-header .ensures) (c .if2 .taken)
 
--- src/open.rt:76:9
 head-in-requires : tie.Need-head-in-requires
 head-in-requires c κs = search needs
 
--- src/open.rt:77:9
 holds-sums-requires : tie.Need-holds-sums-requires
 holds-sums-requires c κs = search needs
 
--- src/open.rt:78:9
 returns-3 : tie.Need-returns-3
 returns-3 c = open-sum _ _ _ _ (c .before .before .before .before .before .if1 .left) (c .before .before .before .before .is-header .ensures) (c .before .before .before .if2 .left) (c .before .before .head-in .ensures) (c .before .holds-sums .ensures) (c .if3 .taken)
 
--- src/open.rt:67:1
 returns-4 : tie.Need-returns-4
 returns-4 c = open-good _ _ _ _ (c .before .before .before .before .before .if1 .left) (c .before .before .before .before .is-header .ensures) (c .before .before .before .if2 .left) (c .before .before .head-in .ensures) (c .before .holds-sums .ensures) (c .if3 .left)
 

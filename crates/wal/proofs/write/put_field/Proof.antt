@@ -4,58 +4,43 @@ use Rattle.wal.proofs.Puts.{field-put}
 use borrow.Author.Needs.{needs}
 use Rattle.wal.proofs.write.put_field.Statement.{statement}
 use Rattle.wal.proofs.write.put_field.Tie as tie
-use Rattle.wal.proofs.write.put_field.Reads as reads
-use Rattle.wal.proofs.write.put_field.Lts as lts
 
--- src/write.rt:17:13
 cast-s : tie.Need-cast-s
 cast-s c = search needs
 
--- src/write.rt:17:5
 slice-write-s : tie.Need-slice-write-s
 slice-write-s c = search needs
 
--- src/write.rt:18:17
 cast-s-2 : tie.Need-cast-s-2
 cast-s-2 c = search needs
 
--- src/write.rt:18:7
 add-s : tie.Need-add-s
 add-s c = search needs
 
--- src/write.rt:18:5
 slice-write-s-2 : tie.Need-slice-write-s-2
 slice-write-s-2 c = simp length-set (omega arith)
 
--- src/write.rt:19:17
 cast-s-3 : tie.Need-cast-s-3
 cast-s-3 c = search needs
 
--- src/write.rt:19:7
 add-s-2 : tie.Need-add-s-2
 add-s-2 c = search needs
 
--- src/write.rt:19:5
 slice-write-s-3 : tie.Need-slice-write-s-3
 slice-write-s-3 c = simp length-set (omega arith)
 
--- src/write.rt:20:17
 cast-s-4 : tie.Need-cast-s-4
 cast-s-4 c = search needs
 
--- src/write.rt:20:7
 add-s-3 : tie.Need-add-s-3
 add-s-3 c = search needs
 
--- src/write.rt:20:5
 slice-write-s-4 : tie.Need-slice-write-s-4
 slice-write-s-4 c = simp length-set (omega arith)
 
--- src/write.rt:13:1
 same-length : tie.Need-same-length
 same-length c = simp length-set
 
--- src/write.rt:13:1
 returns : tie.Need-returns
 returns c = field-put _ _ _ _ _ _ (c .pre)
 

@@ -2,27 +2,19 @@ use Rattle.wal.proofs.Puts.{pair-put}
 use borrow.Author.Needs.{needs}
 use Rattle.wal.proofs.write.put_pair.Statement.{statement}
 use Rattle.wal.proofs.write.put_pair.Tie as tie
-use Rattle.wal.proofs.write.put_pair.Reads as reads
-use Rattle.wal.proofs.write.put_pair.Lts as lts
-use Rattle.wal.proofs.write.put_field.Reads as put-field-reads
 
--- src/write.rt:28:5
 put-field-requires : tie.Need-put-field-requires
 put-field-requires c κs = search needs
 
--- src/write.rt:29:18
 add-put-field : tie.Need-add-put-field
 add-put-field c = search needs
 
--- src/write.rt:29:5
 put-field-requires-2 : tie.Need-put-field-requires-2
 put-field-requires-2 c κs = search needs
 
--- src/write.rt:24:1
 same-length : tie.Need-same-length
 same-length c = search needs
 
--- src/write.rt:24:1
 returns : tie.Need-returns
 returns c = pair-put _ _ _ _ _ _ (c .before .before .before .before .before .before .before .before .before .pre) (c .before .before .before .before .before .before .put-field .ensures) (c .before .before .put-field2 .ensures)
 

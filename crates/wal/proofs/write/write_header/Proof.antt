@@ -3,41 +3,28 @@ use Rattle.wal.proofs.Puts.{header-put}
 use borrow.Author.Needs.{needs}
 use Rattle.wal.proofs.write.write_header.Statement.{statement}
 use Rattle.wal.proofs.write.write_header.Tie as tie
-use Rattle.wal.proofs.write.write_header.Reads as reads
-use Rattle.wal.proofs.write.write_header.Lts as lts
-use Rattle.wal.proofs.sum.Reads as sum-reads
-use Rattle.wal.proofs.write.magic_of.Reads as magic-of-reads
-use Rattle.wal.proofs.write.put_pair.Reads as put-pair-reads
 
--- src/write.rt:44:20
 magic-of-requires : tie.Need-magic-of-requires
 magic-of-requires c κs = search needs
 
--- src/write.rt:44:5
 put-pair-requires : tie.Need-put-pair-requires
 put-pair-requires c κs = search needs
 
--- src/write.rt:45:5
 put-pair-requires-2 : tie.Need-put-pair-requires-2
 put-pair-requires-2 c κs = search needs
 
--- src/write.rt:46:5
 put-pair-requires-3 : tie.Need-put-pair-requires-3
 put-pair-requires-3 c κs = search needs
 
--- src/write.rt:47:9
 sum-requires : tie.Need-sum-requires
 sum-requires c κs = search needs
 
--- src/write.rt:48:5
 put-pair-requires-4 : tie.Need-put-pair-requires-4
 put-pair-requires-4 c κs = search needs
 
--- src/write.rt:40:1
 same-length : tie.Need-same-length
 same-length c = search needs
 
--- src/write.rt:40:1
 returns : tie.Need-returns
 returns c = header-put _ _ _ _ _ _ (now (c .before .before .before .before .before .before .before .before .before .before .before .before .before .before .before .before .before .before .before .before .args .s)) _ _ _ _ _ (c .before .before .before .before .before .before .before .before .before .before .before .before .before .before .before .before .before .magic-of .ensures) (c .before .before .before .before .before .before .before .before .before .before .before .before .before .before .before .before .put-pair .ensures) (c .before .before .before .before .before .before .before .before .before .before .before .before .put-pair2 .ensures) (c .before .before .before .before .before .before .before .before .put-pair3 .ensures) (c .before .before .before .before .sum .ensures) (c .before .before .put-pair4 .ensures)
 

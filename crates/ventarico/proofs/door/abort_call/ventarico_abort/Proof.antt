@@ -6,7 +6,7 @@ use Rattle.rules.specs.declared.Verdict.the-variants.{Go, Refuse}
 use mathlib.Core.Path.{_≡_, refl, sym, _∙_}
 use native.Mathlib.Omega.{arith}
 use Rattle.rules.specs.Calls.{judgeAbort, abortCall}
-use Rattle.rules.specs.Steps.{lostNow, aborted}
+use Rattle.rules.specs.Steps.{aborted}
 use Rattle.sound.proofs.Laws.{sound-shaped}
 use Rattle.rules.proofs.Verdicts.{number-most}
 use Rattle.rules.proofs.Went.{abort-went}
@@ -46,22 +46,21 @@ refused-requires c κs = search needs
 enum-told : tie.Need-enum-told
 enum-told c = search needs
 
-cast-abort-owner : tie.Need-cast-abort-owner
-cast-abort-owner c =
-    let k = c .before .before in
-    let j = k .before .before in
+cast-owner : tie.Need-cast-owner
+cast-owner c =
+    let j = c .before .before in
     let x = start j .args .number in
-    let w = abort-went (lent j) x (went k) in
+    let w = abort-went (lent j) x (went c) in
     omega (arith, number-most x (w .1))
 
 -- what the step asks for, by the tests that it passed
-abort-owner-requires : tie.Need-abort-owner-requires
-abort-owner-requires c κs =
+abort-requires : tie.Need-abort-requires
+abort-requires c κs =
     let k = c .before .before in
     let j = k .before .before in
     let x = start j .args .number in
     let w = abort-went (lent j) x (went k) in
-    omega (arith, sound-shaped (lent j) (w .0), number-most x (w .1))
+    (sound-shaped (lent j) (w .0), number-most x (w .1))
 
 done-requires : tie.Need-done-requires
 done-requires c κs = search needs
@@ -86,12 +85,7 @@ same-length-4 c = search needs
 -- go: what the step counted and left
 returns-2 : tie.Need-returns-2
 unfolding abortCall aborted
-returns-2 c =
-    let k = c .before .before .before .before .before .before .before .before in
-    let j = k .before .before in
-    let s = lent j in
-    let did = c .before .before .before .before .before .abort-owner .ensures in
-    rw (went k) (record { reply = c .done .ensures; lent = λ i. lostNow s (did .0 i) (did .1 i) (s .lost .pool) })
+returns-2 c = rw (went (c .before .before .before .before .before .before .before .before)) (record { reply = c .done .ensures; lent = c .before .before .before .before .before .abort .ensures })
 
 pub ventarico-abort-spec : {M : Type 1} → statement M
 ventarico-abort-spec =
@@ -101,8 +95,8 @@ ventarico-abort-spec =
     enum-known-v
     refused-requires
     enum-told
-    cast-abort-owner
-    abort-owner-requires
+    cast-owner
+    abort-requires
     done-requires
     same-length
     same-length-2

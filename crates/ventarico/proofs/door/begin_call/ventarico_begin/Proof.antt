@@ -4,9 +4,8 @@ use Rattle.rules.specs.Areas.{areas}
 use Rattle.rules.specs.declared.Verdict.{Verdict}
 use Rattle.rules.specs.declared.Verdict.the-variants.{Go, Refuse}
 use mathlib.Core.Path.{_≡_, refl, sym, _∙_}
-use native.Mathlib.Omega.{arith}
 use Rattle.rules.specs.Calls.{judgeBegin, beginCall}
-use Rattle.rules.specs.Steps.{lostNow, begun}
+use Rattle.rules.specs.Steps.{begun}
 use Rattle.sound.proofs.Laws.{sound-shaped}
 use Rattle.rules.proofs.Went.{begin-went}
 use borrow.Author.Needs.{needs}
@@ -51,8 +50,7 @@ begin-requires c κs =
     let k = c .before in
     let j = k .before .before in
     let w = begin-went (lent j) (start j .args .number) (went k) in
-    let shape = sound-shaped (lent j) (w .0) in
-    (omega arith, omega arith, w .1, w .2)
+    (sound-shaped (lent j) (w .0), w .1, w .2)
 
 done-requires : tie.Need-done-requires
 done-requires c κs = search needs
@@ -71,15 +69,7 @@ same-length-2 c = search needs
 -- go: what the step counted and left
 returns-2 : tie.Need-returns-2
 unfolding beginCall begun
-returns-2 c =
-    let k = c .before .before .before .before .before in
-    let j = k .before .before in
-    let s = lent j in
-    rw (went k)
-    (record {
-      reply = c .done .ensures;
-      lent = λ i. lostNow s (c .before .before .before .begin .ensures i) (s .lost .online) (s .lost .pool);
-    })
+returns-2 c = rw (went (c .before .before .before .before .before)) (record { reply = c .done .ensures; lent = c .before .before .before .begin .ensures })
 
 pub ventarico-begin-spec : {M : Type 1} → statement M
 ventarico-begin-spec =

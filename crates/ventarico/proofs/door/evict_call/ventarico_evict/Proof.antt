@@ -4,9 +4,8 @@ use Rattle.rules.specs.Areas.{areas}
 use Rattle.rules.specs.declared.Verdict.{Verdict}
 use Rattle.rules.specs.declared.Verdict.the-variants.{Go, Refuse}
 use mathlib.Core.Path.{_≡_, refl, sym, _∙_}
-use native.Mathlib.Omega.{arith}
 use Rattle.rules.specs.Calls.{judgeEvict, evictCall}
-use Rattle.rules.specs.Steps.{lostNow, evicted}
+use Rattle.rules.specs.Steps.{evicted}
 use Rattle.sound.proofs.Laws.{sound-shaped}
 use Rattle.rules.proofs.Went.{evict-went}
 use borrow.Author.Needs.{needs}
@@ -45,20 +44,13 @@ refused-requires c κs = search needs
 enum-told : tie.Need-enum-told
 enum-told c = search needs
 
-params-of-requires : tie.Need-params-of-requires
-params-of-requires c κs =
-    let j = c .before .before in
-    sound-shaped (lent j) (evict-went (lent j) (start j .args .page) (went c) .0) .sized .fixed
-
 -- what the step asks for, by the tests that it passed
 evict-requires : tie.Need-evict-requires
 evict-requires c κs =
-    let k = c .before .before in
+    let k = c .before in
     let j = k .before .before in
     let w = evict-went (lent j) (start j .args .page) (went k) in
-    let shape = sound-shaped (lent j) (w .0) in
-    let frames = c .before .params-of .ensures .frames in
-    (omega (arith, frames, w .1), omega (arith, frames), omega (arith, frames), rw frames (w .2))
+    (sound-shaped (lent j) (w .0), w .1, w .2)
 
 done-requires : tie.Need-done-requires
 done-requires c κs = search needs
@@ -77,12 +69,7 @@ same-length-2 c = search needs
 -- go: what the step counted and left
 returns-2 : tie.Need-returns-2
 unfolding evictCall evicted
-returns-2 c =
-    let k = c .before .before .before .before .before .before in
-    let j = k .before .before in
-    let s = lent j in
-    let tables = rw (c .before .before .before .before .before .params-of .ensures .frames) at (c .before .before .before .evict .ensures) in
-    rw (went k) (record { reply = c .done .ensures; lent = λ i. lostNow s (tables i) (s .lost .online) (s .lost .pool) })
+returns-2 c = rw (went (c .before .before .before .before .before)) (record { reply = c .done .ensures; lent = c .before .before .before .evict .ensures })
 
 pub ventarico-evict-spec : {M : Type 1} → statement M
 ventarico-evict-spec =
@@ -92,7 +79,6 @@ ventarico-evict-spec =
     enum-known-v
     refused-requires
     enum-told
-    params-of-requires
     evict-requires
     done-requires
     same-length

@@ -1,13 +1,13 @@
--- The bytes passed are zero, those after are as they were.
+-- `fill::wipe` meets its contract: the bytes passed are zero, those after are as they were.
 use Prim.Native.Nat.{_-_, _≤_}
+use native.Mathlib.Omega.{arith}
 use mathlib.Core.Path.{_≡_, refl}
 use mathlib.Core.List.{_++_}
-use native.Mathlib.Omega.{arith}
 use lib.ListN.{length, drop, replicate}
 use borrow.Author.Needs.{needs}
 use Rattle.record.proofs.Laws.{wipe-turn, wipe-end}
-use Rattle.table.proofs.bytes.wipe.Statement.{statement}
-use Rattle.table.proofs.bytes.wipe.Tie as tie
+use Rattle.fill.proofs.wipe.Statement.{statement}
+use Rattle.fill.proofs.wipe.Tie as tie
 
 abbrev Inv-loop : tie.InvT-loop
 Inv-loop s₀ i₀ s i = (i ≤ length s₀) × (s ≡ replicate i 0 ++ drop i s₀) × (length s ≡ length s₀)

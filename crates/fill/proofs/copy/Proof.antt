@@ -1,13 +1,13 @@
--- `frames::copy` meets its contract: the bytes passed are those of the other slice.
+-- `fill::copy` meets its contract: the bytes passed are those of the other slice.
 use Prim.Native.Nat.{_≤_, _-_}
 use mathlib.Core.Path.{_≡_, refl}
 use lib.ListN.{length, take}
 use denote.Ref.{now}
 use borrow.Author.Needs.{needs}
 use Rattle.order.proofs.Laws.{copy-turn}
-use Rattle.frames.proofs.Laws.{copy-end}
-use Rattle.frames.proofs.copy.Statement.{statement}
-use Rattle.frames.proofs.copy.Tie as tie
+use Rattle.fill.proofs.Laws.{copy-end}
+use Rattle.fill.proofs.copy.Statement.{statement}
+use Rattle.fill.proofs.copy.Tie as tie
 
 abbrev Inv-loop : tie.InvT-loop
 Inv-loop to₀ from i₀ to i = (i ≤ length from) × (length to ≡ length to₀) × (take i to ≡ take i from)

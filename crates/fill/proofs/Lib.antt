@@ -1,0 +1,2 @@
+-- What the proof of `copy` cites.
+pub mod Laws
