@@ -54,18 +54,6 @@ pub fn bare(path: &Path) -> Result<Found, String> {
     Ok(Found { what: what.into(), areas, checks: Vec::new() })
 }
 
-/// The checksum of a journal's record, over several pieces that are filled up with zeros to a multiple of 8 bytes. No CRC:
-/// a record of checksums would hold CRCs beside what they are of.
-fn record_sum(pieces: &[&[u8]]) -> u32 {
-    let mut bytes = pieces.concat();
-    bytes.resize(bytes.len().next_multiple_of(8), 0);
-    let sum = bytes.as_chunks::<8>().0.iter().fold(0u64, |sum, word| {
-        let sum = (sum ^ u64::from_le_bytes(*word)).wrapping_mul(0x9e37_79b9_7f4a_7c15);
-        sum ^ sum >> 32
-    });
-    sum as u32
-}
-
 /// CRC-32 as zlib has it, over several pieces.
 fn crc32(pieces: &[&[u8]]) -> u32 {
     let mut crc = u32::MAX;
@@ -76,6 +64,17 @@ fn crc32(pieces: &[&[u8]]) -> u32 {
         }
     }
     !crc
+}
+
+/// The checksum of a journal's record, which is no CRC: docs/FILESTORE.md, "F.journal, byte by byte".
+fn record_sum(pieces: &[&[u8]]) -> u32 {
+    let step = |sum: u64, group: &[u8]| {
+        let mut word = [0; 8];
+        word[..group.len()].copy_from_slice(group);
+        let product = (sum ^ u64::from_le_bytes(word)).wrapping_mul(0x9e37_79b9_7f4a_7c15);
+        product ^ product >> 32
+    };
+    pieces.concat().chunks(8).fold(0, step) as u32
 }
 
 fn get8(bytes: &[u8], at: usize) -> u64 {
@@ -453,11 +452,11 @@ pub mod tests {
     #[test]
     fn the_checksum_is_the_usual_one() {
         assert_eq!(crc32(&[b"1234", b"56789"]), 0xcbf4_3926);
-        // The example of docs/FILESTORE.md: a record without a piece.
-        let identity: [u8; 16] = std::array::from_fn(|i| i as u8);
-        let words = [0u32, 1, 0, 0, 3].map(u32::to_le_bytes).concat();
-        let tie = 0x1122_3344_5566_7788u64.to_le_bytes();
-        assert_eq!(record_sum(&[&identity, &5u64.to_le_bytes(), &tie, &words]), 0xc41a_f3b4);
+        // The example of docs/FILESTORE.md.
+        let identity: Vec<u8> = (0..16).collect();
+        let (generation, tie) = (5u64.to_le_bytes(), 0x1122_3344_5566_7788u64.to_le_bytes());
+        let record: Vec<u8> = [0u32, 1, 0, 0, 3].iter().flat_map(|number| number.to_le_bytes()).collect();
+        assert_eq!(record_sum(&[&identity, &generation, &tie, &record]), 0xc41a_f3b4);
     }
 
     #[test]
