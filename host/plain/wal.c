@@ -1,5 +1,6 @@
 /* SQLite's write-ahead log in plain C: the same work as ventarico_wal_write and ventarico_wal_judge, for their speed alone
- * (host/bench wal). It trusts the store: no table is checked, which the library does at each call. Nothing else uses it. */
+ * (host/bench wal). It trusts the store: the bench has the tables checked before, as the library does at each call. Nothing else
+ * uses it. */
 #include <stddef.h>
 #include <stdint.h>
 #include <string.h>

@@ -7,6 +7,7 @@
 use crate::areas::{Areas, Lent, Reply, Sizes};
 use crate::bench::{clock, in_turn, micros, Cost, Middle, Rounds};
 use crate::calls::{Call, Store};
+use crate::sound;
 use crate::twin::Twin;
 use crate::wal::{self, Given, Judged, Wal};
 use std::hint::black_box;
@@ -38,12 +39,12 @@ extern "C" {
     fn plain_wal_judge(file: *const u8, length: usize) -> Judged;
 }
 
-/// The plain C. It trusts what it is lent.
+/// The plain C. It trusts what it is lent, so the second program checks the tables for it: both sides do the same work.
 struct Plain;
 
 impl Wal for Plain {
     fn write(&self, store: &Areas, list: &[u32], target: &mut [u8], given: &Given) -> Reply {
-        assert!(target.len() >= wal::length(list.len(), store.sizes().page_size));
+        assert!(sound::broken(store).none() && target.len() >= wal::length(list.len(), store.sizes().page_size));
         let Given { salts: [salt_1, salt_2], sequence, order } = *given;
         // Safe: the store is sound, every listed page is one of its pages, and the target is long enough.
         unsafe {

@@ -1,11 +1,16 @@
-//! Tools for the service desk: a write-ahead log judged in words, and a rollback journal played over a database file,
-//! whole or not at all. Both go by the proved library where it is linked; what they say beside its answers (pages,
-//! commits, why it stops) is the second program's reading of the same bytes.
+//! Tools for the service desk: a store kept in a file written as a write-ahead log beside a database, a log judged in
+//! words, and a rollback journal played over a database file. What is written is written whole or not at all. They go
+//! by the proved library where it is linked; what they say beside its answers (pages, commits, why it stops) is the
+//! second program's reading of the same bytes.
 
+use crate::areas::{Areas, Lent, Sizes};
+use crate::calls::{Call, Store};
+use crate::container;
 use crate::journal::{self, Header, BAD_CHECKSUM, CUT_SHORT};
 use crate::layouts;
-use crate::wal::{self, Stop, Wal};
+use crate::wal::{self, Given, Judged, Stop, Wal};
 use std::fs::{self, File};
+use std::hash::{BuildHasher, RandomState};
 use std::io::Write;
 use std::path::{Path, PathBuf};
 use std::process::ExitCode;
@@ -18,10 +23,11 @@ const PLAYED_BY: &str = if cfg!(archive_journal) {
 const JUDGED_BY: &str =
     if cfg!(archive_wal) { "by the proved library" } else { "BY THE SECOND PROGRAM: no library with logs was linked" };
 
-/// The words of a tool, or none of them.
-pub fn command(words: &[String]) -> Option<ExitCode> {
+/// The words of a tool, or none of them. The store's calls are made on the store that is given.
+pub fn command(store: &mut dyn Store, words: &[String]) -> Option<ExitCode> {
     let words: Vec<&str> = words.iter().map(String::as_str).collect();
     let said = match words[..] {
+        ["wal-write", file, name] => write_log(store, Path::new(file), Path::new(name)),
         ["wal-judge", file] => judge(Path::new(file)),
         ["journal-play", journal, database] => play(Path::new(journal), Path::new(database)),
         _ => return None,
@@ -62,6 +68,80 @@ fn listed(what: &str, mut numbers: Vec<u32>) -> String {
     });
     let more = if runs.iter().all(|(from, to)| from == to) && runs.len() == 1 { "" } else { "s" };
     format!("{what}{more} {}", said.collect::<Vec<_>>().join(", "))
+}
+
+/// The store of a file as a restart leaves it: what is committed, and nothing else.
+fn restarted(store: &mut dyn Store, path: &Path) -> Result<Areas, String> {
+    let refused = |why: String| format!("refused: {}: {why}; next: host/inspect {}", path.display(), path.display());
+    let found = container::file_host(path).map_err(&refused)?;
+    if let Some(wrong) = found.checks.iter().find(|check| !check.right) {
+        return Err(refused(format!("a check is wrong: {}", wrong.what)));
+    }
+    let sizes = Sizes::of(&found.areas[0]);
+    if !sizes.in_range() {
+        return Err(refused("its sizes are out of range".to_string()));
+    }
+    let mut areas = Areas::for_sizes(&sizes);
+    for (area, bytes) in areas.each_mut().into_iter().zip(&found.areas) {
+        area.set_length(bytes.len());
+        area.copy_from_slice(bytes);
+    }
+    match store.call(&mut areas, &Call::Restart, &mut Lent::zeros(0)) {
+        reply if reply.accepted() => Ok(areas),
+        reply => Err(refused(format!("restart answers {}", reply.code))),
+    }
+}
+
+/// The page size of a database file, if it is one. It keeps 65,536 as 1.
+fn page_size_of(database: &[u8]) -> Option<u32> {
+    let kept = database.strip_prefix(FIRST_WORDS).and_then(|rest| rest.first_chunk())?;
+    Some(match u16::from_be_bytes(*kept) {
+        1 => 65_536,
+        size => size.into(),
+    })
+}
+
+/// What a database begins with.
+const FIRST_WORDS: &[u8] = b"SQLite format 3\0";
+
+/// Every page of the store in a log beside the database: SQLite opens the database with it, or takes it in.
+fn write_log(store: &mut dyn Store, path: &Path, name: &Path) -> Result<(), String> {
+    let areas = restarted(store, path)?;
+    let Sizes { page_size, pages, .. } = areas.sizes();
+    let log = beside(name, "-wal");
+    println!("{}: {pages} pages of {page_size} bytes, written {JUDGED_BY}", path.display());
+    let refused = |what: &Path, why: &str| Err(format!("refused: {}: {why}", what.display()));
+    match fs::read(name).ok().as_deref().and_then(page_size_of) {
+        Some(size) if size == page_size => (),
+        Some(_) => return refused(name, "its pages are not as large as the store's; next: name the database that they were taken from"),
+        None => return refused(name, "no SQLite database; next: put there the one that the store's pages were taken from, for SQLite drops a log beside none"),
+    }
+    if log.exists() {
+        return refused(&log, "a log is there already; next: have SQLite take it in, by PRAGMA wal_checkpoint");
+    }
+    let list: Vec<u32> = (0..pages).collect();
+    let given = Given { salts: by_chance(), sequence: 0, order: 0 };
+    let mut bytes = vec![0; wal::length(list.len(), page_size)];
+    let library = layouts::log_writer();
+    let reply = library.write(&areas, &list, &mut bytes, &given);
+    if !reply.accepted() {
+        return refused(path, &format!("writing a log answers {}; next: report this store", reply.code));
+    }
+    let right = Judged { code: 0, frames: pages.into(), end: bytes.len() as u64 };
+    same(library.judge(&bytes), right)?;
+    if !bytes[wal::HEADER + wal::FRAME..].starts_with(FIRST_WORDS) {
+        println!("its page 0 does not begin as a database does: sqlite3 will not open it");
+    }
+    replace(&log, &bytes)?;
+    println!("{}: {}, {} bytes, the last one a commit", log.display(), many(list.len(), "frame"), bytes.len());
+    println!("next: sqlite3 {} 'PRAGMA integrity_check; PRAGMA wal_checkpoint;'", name.display());
+    Ok(())
+}
+
+/// Salts that no earlier log had: the standard library's hasher is keyed anew in each process.
+fn by_chance() -> [u32; 2] {
+    let number = RandomState::new().hash_one(std::time::SystemTime::now());
+    [(number >> 32) as u32, number as u32]
 }
 
 fn judge(path: &Path) -> Result<(), String> {
@@ -269,11 +349,16 @@ fn play(journal_path: &Path, path: &Path) -> Result<(), String> {
     Ok(())
 }
 
-/// The new bytes in place of the old, whole or not at all: a copy is written and synced, then takes the name.
-fn replace(path: &Path, bytes: &[u8]) -> Result<(), String> {
+/// The file of that name and more.
+fn beside(path: &Path, more: &str) -> PathBuf {
     let mut name = path.as_os_str().to_owned();
-    name.push(".restored");
-    let copy = PathBuf::from(name);
+    name.push(more);
+    PathBuf::from(name)
+}
+
+/// The new bytes in place of the old, if there are any, whole or not at all: a copy is written and synced, then takes the name.
+fn replace(path: &Path, bytes: &[u8]) -> Result<(), String> {
+    let copy = beside(path, ".written");
     let folder = match path.parent() {
         Some(folder) if !folder.as_os_str().is_empty() => folder,
         _ => Path::new("."),
@@ -281,7 +366,9 @@ fn replace(path: &Path, bytes: &[u8]) -> Result<(), String> {
     let put = || -> std::io::Result<()> {
         let mut file = File::create(&copy)?;
         file.write_all(bytes)?;
-        file.set_permissions(fs::metadata(path)?.permissions())?;
+        if let Ok(old) = fs::metadata(path) {
+            file.set_permissions(old.permissions())?;
+        }
         file.sync_all()?;
         fs::rename(&copy, path)?;
         File::open(folder)?.sync_all()
@@ -289,7 +376,7 @@ fn replace(path: &Path, bytes: &[u8]) -> Result<(), String> {
     put().map_err(|why| {
         // The old file stands as long as the copy has not taken its name.
         let _ = fs::remove_file(&copy);
-        format!("{} cannot be replaced: {why}; next: make room beside it, or see who may write there", path.display())
+        format!("{} cannot be written: {why}; next: make room beside it, or see who may write there", path.display())
     })
 }
 

@@ -98,6 +98,7 @@ fn usage() -> ExitCode {
          \x20      ventarico-host {}  what a store in a file holds, and whether it is sound\n\
          \n\
          for the service desk:\n\
+         \x20      ventarico-host wal-write STORE NAME            a store kept in a file, as the log NAME-wal beside a database\n\
          \x20      ventarico-host wal-judge FILE                  a write-ahead log: frames, commits, where it stops and why\n\
          \x20      ventarico-host journal-play JOURNAL DATABASE   plays a rollback journal over a database file",
         CALLS / PAIRS_PART,
@@ -114,7 +115,7 @@ fn main() -> ExitCode {
     if words.first().is_some_and(|word| word == "inspect") {
         return inspect::command(&words[1..]);
     }
-    if let Some(ended) = desk::command(&words) {
+    if let Some(ended) = desk::command(&mut Tested {}, &words) {
         return ended;
     }
     if let [word, file] = &words[..] {
