@@ -1,4 +1,4 @@
--- "Cases on one small store": page size 512, 8 pages, 2 frames, 4 online, 8 log, L = 0, bytes zero. "Calls follow one another up to P12."
+-- "Cases on one small store": page size 512, 8 pages, 2 frames, 4 online, 8 log, L = 0, bytes zero. "Calls follow one another up to P12." docs/RULES.md 11.
 -- The expected answers, counts, bytes and tables are 01's; what 01 leaves unsaid of a line (a call's other counts) is what its rules give.
 use Prim.Native.Nat.{ℕ}
 use mathlib.Core.Path.{_≡_, refl}

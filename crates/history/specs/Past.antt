@@ -1,4 +1,4 @@
--- The history: what the calls and their answers tell, and nothing else. No table is looked at, and nothing is ever compacted or dropped.
+-- The history: what the calls and their answers tell, and nothing else. No table is looked at, and nothing is ever compacted or dropped. docs/RULES.md 10.
 use Prim.Native.Nat.{ℕ, _+_}
 use mathlib.Core.Bool.{Bool, true, false, cond, not, _&&_, _||_}
 use mathlib.Core.List.{List, [], _∷_, _++_}

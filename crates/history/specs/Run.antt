@@ -1,4 +1,4 @@
--- How a store comes by its bytes: an accepted format, then calls with any arguments, accepted or refused, and power losses.
+-- How a store comes by its bytes: an accepted format, then calls with any arguments, accepted or refused, and power losses. docs/RULES.md 9 and 10.
 use Prim.Native.Nat.{ℕ, _+_, _≤_}
 use mathlib.Core.Path.{_≡_}
 use mathlib.Core.Bool.{Bool, true, false, cond}

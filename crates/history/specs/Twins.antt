@@ -1,4 +1,4 @@
--- Demand 3's two stores: formatted alike but for their table sizes, and driven side by side with the same transaction calls.
+-- Demand 3's two stores: formatted alike but for their table sizes, and driven side by side with the same transaction calls. docs/RULES.md 10.
 -- Each keeps house by itself: what it evicts, compacts and closes, and when, is its own.
 use Prim.Native.Nat.{ℕ, _+_, _≤_}
 use mathlib.Core.Path.{_≡_}

@@ -1,4 +1,4 @@
--- The use order: the frames in use, the least recently used first.
+-- The use order: the frames in use, the least recently used first. docs/RULES.md 6.
 use Prim.Native.Nat.{ℕ, zero, suc, _+_}
 use mathlib.Core.Bool.{Bool, true, false, cond, not, _||_}
 use mathlib.Core.List.{List, [], _∷_, _++_}

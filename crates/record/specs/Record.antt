@@ -1,4 +1,4 @@
--- A record: page, offset, length, kind and value, as a row of bytes; what applying it to a page means.
+-- A record: page, offset, length, kind and value, as a row of bytes; what applying it to a page means. docs/RULES.md 4.
 -- A log row is the 14 bytes of the record. An online row has 5 more: owner and number.
 use Prim.Native.Nat.{ℕ, _+_, _%_, _^_, min, max}
 use mathlib.Core.Bool.{Bool, true, false, cond, not, _&&_, _||_}

@@ -1,4 +1,4 @@
--- 01's number and values for each answer.
+-- 01's number and values for each answer. docs/RULES.md 8.
 use Prim.Native.Nat.{ℕ}
 use Rattle.rules.specs.declared.Bad.{Bad}
 use Rattle.rules.specs.declared.Refusal.{Refusal}

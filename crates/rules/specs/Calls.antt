@@ -1,4 +1,4 @@
--- The calls: the refusals in 01's order, and what is left. A refusal leaves every lent byte.
+-- The calls: the refusals in 01's order, and what is left. A refusal leaves every lent byte. docs/RULES.md 8.
 use Prim.Native.Nat.{ℕ, _+_, _-_, _^_}
 use mathlib.Core.Bool.{Bool, true, false, cond, not, _&&_, _||_}
 use mathlib.Core.List.{List, [], _∷_}

@@ -1,4 +1,4 @@
--- The lent bytes, durable and lost parts apart, and what they mean: docs/LAYOUT.md as definitions.
+-- The lent bytes, durable and lost parts apart, and what they mean: docs/LAYOUT.md as definitions. docs/RULES.md 2 and 3.
 use Prim.Native.Nat.{ℕ, _+_, _*_, _-_, _/_, _%_}
 use mathlib.Core.Bool.{Bool, not}
 use mathlib.Core.List.{List, _++_}

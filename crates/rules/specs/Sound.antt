@@ -1,4 +1,4 @@
--- "Sound tables": one definition for each sentence, S1 to S20. docs/TRACE.md has the same labels.
+-- "Sound tables": one definition for each sentence, S1 to S20. docs/TRACE.md has the same labels. docs/RULES.md 5.
 use Prim.Native.Nat.{ℕ, zero, suc, _+_, _*_, _-_, _/_, _%_}
 use mathlib.Core.Bool.{Bool, true, false, cond, not, _&&_, _||_}
 use mathlib.Core.List.{List, [], _∷_, _++_}

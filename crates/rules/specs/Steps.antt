@@ -1,4 +1,4 @@
--- "The steps" of document 01, on lent tables that are sound and arguments that are in range: what each call does when it is not refused.
+-- "The steps" of document 01, on lent tables that are sound and arguments that are in range: what each call does when it is not refused. docs/RULES.md 6 and 7.
 use Prim.Native.Nat.{ℕ, zero, suc, _+_, _*_, _-_, _/_, _%_}
 use mathlib.Core.Bool.{Bool, true, false, cond, not, _&&_, _||_}
 use mathlib.Core.List.{List, [], _∷_, _++_, map}
