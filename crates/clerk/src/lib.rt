@@ -1,5 +1,6 @@
 // The clerk: which transaction numbers are live, and the last log number. Its state is a small struct that goes in by
 // value and comes back in a ruling.
+#![tactic(auto)]
 ghost use Rattle.std.specs.Prelude.{◌≡◌};
 ghost use Rattle.clerk.specs.Rule.{begins, aborts, commits};
 

@@ -1,4 +1,5 @@
 // Bytes written over a slice, all of it: zeros, or another slice's bytes.
+#![tactic(auto)]
 ghost use Rattle.std.specs.Prelude.{◌≡◌, length, replicate};
 
 // Zeros.

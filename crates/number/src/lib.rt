@@ -1,5 +1,6 @@
 // The three kinds of number that document 01 keeps apart, after source 001's logical address, frame ID and LSN:
 // a function that wants one cannot be handed another.
+#![tactic(auto)]
 
 // A logical address: the number of a page, from 0.
 #[derive(Drop)]

@@ -1,4 +1,5 @@
 // The use order by value: a call that changes it takes self and hands the changed order back.
+#![tactic(auto)]
 ghost use Rattle.std.specs.Prelude.{◌≡◌, cond, false, ◌++◌, ℕ, ◌+◌, ◌≤◌, ◌<◌, length, get_or, take, replicate, eqb};
 ghost use Rattle.order.specs.Order.{named, without, touched, victim, frame_for};
 ghost use Rattle.order.specs.Meant.{list_of};

@@ -1,4 +1,5 @@
 // Restart: the lost part made anew from the log. Of the durable part nothing changes, and no frame byte.
+#![tactic(auto)]
 ghost use Rattle.std.specs.Prelude.{◌≡◌, true, cond, ◌++◌, ◌+◌, ◌*◌, ◌-◌, ◌^◌, ◌≤◌, ◌<◌, length, drop, set};
 ghost use Rattle.word.specs.Word.{put};
 ghost use Rattle.record.specs.Part.{with_part};

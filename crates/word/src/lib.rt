@@ -1,5 +1,7 @@
 // Numbers of 1 to 8 bytes in a byte slice, lowest byte first: read and written at a place.
 // Nothing else of the slice changes. The caller shows that the place is within the slice.
+#![tactic(auto)]
+
 ghost use Rattle.std.specs.Prelude.{◌≡◌, ℕ, ◌+◌, ◌≤◌, ◌<◌, ◌^◌, length};
 ghost use Rattle.word.specs.Word.{num, put};
 
