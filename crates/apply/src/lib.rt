@@ -1,6 +1,7 @@
 // What a record does to a page, in place: one change, one row of a table, and a page's rows in table order.
 // Any page is taken: a change that does not fit it leaves it as it is. Only the table's rows have to lie within the table.
 #![tactic(auto)]
+
 ghost use Rattle.std.specs.Prelude.{◌≡◌, ◌+◌, ◌-◌, ◌*◌, ◌%◌, ◌^◌, ◌≤◌, ◌&&◌, length, if◌then◌else◌, nat_eq, nat_le};
 ghost use Rattle.record.specs.Rows.{row_at, rows, keep};
 ghost use Rattle.record.specs.Record.{online_width, log_width, change, apply, applied, chosen};

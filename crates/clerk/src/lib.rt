@@ -1,19 +1,20 @@
 // The clerk: which transaction numbers are live, and the last log number. Its state is a small struct that goes in by
 // value and comes back in a ruling.
 #![tactic(auto)]
+
 ghost use Rattle.std.specs.Prelude.{◌≡◌};
 ghost use Rattle.clerk.specs.Rule.{begins, aborts, commits};
 
 // Number t, 1 to 32, is live where slot t - 1 is 1.
 #[repr(C)]
-#[derive(Drop)]
+#[derive(Clone, Copy)]
 pub struct Clerk {
     pub live: [u8; 32],
     pub last: u32,
 }
 
 // What the clerk rules: the refusal's number, or 0, and the clerk afterwards.
-#[derive(Drop)]
+#[derive(Clone, Copy)]
 pub struct Ruled {
     pub code: u8,
     pub clerk: Clerk,

@@ -20,14 +20,14 @@ use order::Order;
 use table::page::Survey;
 
 // Page reads and page writes.
-#[derive(Drop)]
+#[derive(Clone, Copy)]
 pub struct Compacted {
     pub reads: u32,
     pub writes: u32,
 }
 
 // Page size, frames, room for online rows, and how many of these there are.
-#[derive(Drop)]
+#[derive(Clone, Copy)]
 pub struct Sizes {
     pub size: usize,
     pub frames: usize,
@@ -37,7 +37,7 @@ pub struct Sizes {
 
 // What is to be done to a page: whether it is written from its frame, whether that frame is freed, which frame it is,
 // the entry and the stamp, and how many reads that takes.
-#[derive(Drop)]
+#[derive(Clone, Copy)]
 pub struct Plan {
     pub framed: bool,
     pub frees: bool,

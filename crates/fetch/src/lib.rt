@@ -18,7 +18,7 @@ use number::{FrameNo, PageNo};
 use order::Order;
 
 // The parameters that these calls want.
-#[derive(Drop)]
+#[derive(Clone, Copy)]
 struct Sizes {
     size: usize,
     pages: usize,
@@ -26,7 +26,7 @@ struct Sizes {
 }
 
 // Where a page is, and with how many page reads it came there.
-#[derive(Drop)]
+#[derive(Clone, Copy)]
 pub struct Fetched {
     pub frame: FrameNo,
     pub reads: u32,

@@ -1,5 +1,6 @@
 // Bytes written over a slice, all of it: zeros, or another slice's bytes.
 #![tactic(auto)]
+
 ghost use Rattle.std.specs.Prelude.{◌≡◌, length, replicate};
 
 // Zeros.

@@ -7,7 +7,7 @@ pub mod sum;
 
 // An answer as C has it.
 #[repr(C)]
-#[derive(Drop)]
+#[derive(Clone, Copy)]
 pub struct Reply {
     pub code: u32,
     pub ended: u32,

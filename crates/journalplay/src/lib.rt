@@ -11,7 +11,7 @@ ghost use Rattle.journalplay.specs.Seen.{Said};
 use journal::Reply;
 
 // How far the records go, and whether one of them names a page outside the lent set.
-#[derive(Drop)]
+#[derive(Clone, Copy)]
 pub struct Looked {
     pub count: usize,
     pub ended: u32,
@@ -19,7 +19,7 @@ pub struct Looked {
 }
 
 // A refusal, or 0 with how far the records go.
-#[derive(Drop)]
+#[derive(Clone, Copy)]
 pub struct Judged {
     pub code: u32,
     pub ended: u32,

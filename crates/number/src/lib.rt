@@ -3,13 +3,13 @@
 #![tactic(auto)]
 
 // A logical address: the number of a page, from 0.
-#[derive(Drop)]
+#[derive(Clone, Copy)]
 pub struct PageNo(pub usize);
 
 // A frame ID: the number of a frame, from 0.
-#[derive(Drop)]
+#[derive(Clone, Copy)]
 pub struct FrameNo(pub usize);
 
 // An LSN: a log number, 1 to 4,294,967,295; 0 stands for none.
-#[derive(Drop)]
+#[derive(Clone, Copy)]
 pub struct LogNo(pub u64);

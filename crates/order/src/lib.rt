@@ -1,5 +1,6 @@
 // The use order by value: a call that changes it takes self and hands the changed order back.
 #![tactic(auto)]
+
 ghost use Rattle.std.specs.Prelude.{◌≡◌, cond, false, ◌++◌, ℕ, ◌+◌, ◌≤◌, ◌<◌, length, get_or, take, replicate, eqb};
 ghost use Rattle.order.specs.Order.{named, without, touched, victim, frame_for};
 ghost use Rattle.order.specs.Meant.{list_of};
@@ -8,7 +9,7 @@ use number::FrameNo;
 
 // The frames in use, the least recently used first: the first `used` slots.
 // One slot more than there can be frames, so that a touch always has room.
-#[derive(Drop)]
+#[derive(Clone, Copy)]
 pub struct Order {
     pub slots: [u8; 65],
     pub used: usize,

@@ -1,6 +1,7 @@
 // Records as rows of bytes: the fields of a row. What a record does to a page is in crate `apply`.
 // A function that reads row i of w bytes wants that row to lie within the table.
 #![tactic(auto)]
+
 ghost use Rattle.std.specs.Prelude.{◌≡◌, ℕ, ◌+◌, ◌*◌, ◌≤◌, ◌<◌, length};
 ghost use Rattle.record.specs.Rows.{row_at};
 ghost use Rattle.record.specs.Record.{online_width, log_width, page_of, offset_of, length_of, kind_of, value_of, owner_of, number_of};

@@ -5,7 +5,7 @@ ghost use Rattle.std.specs.Prelude.{◌≡◌};
 ghost use Rattle.rules.specs.Answers.{code_of, reply_of};
 
 // What format is given, L apart: page size, pages, frames, and the sizes of the online table and the log in records.
-#[derive(Drop)]
+#[derive(Clone, Copy)]
 pub struct Params {
     pub size: u64,
     pub pages: u64,
@@ -15,7 +15,7 @@ pub struct Params {
 }
 
 // The first bad argument, in the order in which they are judged.
-#[derive(Drop)]
+#[derive(Clone, Copy)]
 pub enum Bad {
     Page,
     Number,
@@ -28,7 +28,7 @@ pub enum Bad {
 }
 
 // Why a call is refused, in the order of 01's table.
-#[derive(Drop)]
+#[derive(Clone, Copy)]
 pub enum Refusal {
     NotSound,
     Argument(Bad),
@@ -43,21 +43,21 @@ pub enum Refusal {
 }
 
 // What judging a call says.
-#[derive(Drop)]
+#[derive(Clone, Copy)]
 pub enum Verdict {
     Go,
     Refuse(Refusal),
 }
 
 // Page reads, page writes and log writes of a call.
-#[derive(Drop)]
+#[derive(Clone, Copy)]
 pub struct Counts {
     pub reads: u32,
     pub writes: u32,
     pub logs: u32,
 }
 
-#[derive(Drop)]
+#[derive(Clone, Copy)]
 pub enum Answer {
     Done(Counts),
     NotDue,
@@ -66,7 +66,7 @@ pub enum Answer {
 
 // An answer as C has it.
 #[repr(C)]
-#[derive(Drop)]
+#[derive(Clone, Copy)]
 pub struct Reply {
     pub code: u32,
     pub note: u32,

@@ -8,7 +8,7 @@ use number::PageNo;
 
 // What the rows of a page come to: how many, how many of them committed, the smallest and the greatest number of those (0: none),
 // and the rows from which on and up to which those stand (with none: the end).
-#[derive(Drop)]
+#[derive(Clone, Copy)]
 pub struct Survey {
     pub all: usize,
     pub committed: usize,

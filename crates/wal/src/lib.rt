@@ -5,14 +5,14 @@ ghost use Rattle.std.specs.Prelude.{◌≡◌, ◌+◌, ◌*◌, ◌≤◌, leng
 ghost use Rattle.wal.specs.Sum.{field, word_at, paired, summed};
 
 // The two running sums.
-#[derive(Drop)]
+#[derive(Clone, Copy)]
 pub struct Sums {
     pub s0: u32,
     pub s1: u32,
 }
 
 // What a header says: whether words are summed highest byte first, the page size, the salts, its own sums.
-#[derive(Drop)]
+#[derive(Clone, Copy)]
 pub struct Header {
     pub big: bool,
     pub size: usize,
@@ -22,7 +22,7 @@ pub struct Header {
 }
 
 // A file's header, judged.
-#[derive(Drop)]
+#[derive(Clone, Copy)]
 pub enum Opened {
     Good(Header),
     BadHeader,
@@ -30,7 +30,7 @@ pub enum Opened {
 }
 
 // A whole frame, looked at: page number, commit field and the sums after it; or validity stops here.
-#[derive(Drop)]
+#[derive(Clone, Copy)]
 pub enum Seen {
     Valid(u32, u32, Sums),
     Stop,

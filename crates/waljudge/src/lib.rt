@@ -11,7 +11,7 @@ use wal::{Header, Opened, Seen};
 
 // The answer of judging, as C has it.
 #[repr(C)]
-#[derive(Drop)]
+#[derive(Clone, Copy)]
 pub struct Judged {
     pub code: u32,
     pub frames: u64,
@@ -20,7 +20,7 @@ pub struct Judged {
 
 // The answer of looking for a page, as C has it.
 #[repr(C)]
-#[derive(Drop)]
+#[derive(Clone, Copy)]
 pub struct Found {
     pub code: u32,
     pub found: u32,
@@ -29,7 +29,7 @@ pub struct Found {
 
 // What the frames passed come to: how many, where the last commit frame ends, where the page's last image up to there
 // begins, and where its last image of all begins. 0: none.
-#[derive(Drop)]
+#[derive(Clone, Copy)]
 pub struct Pass {
     pub frames: usize,
     pub end: usize,

@@ -15,7 +15,7 @@ use rules::{Answer, Bad, Refusal, Reply};
 use wal::{Header, Sums};
 
 // Why no log is written, in the order in which it is judged.
-#[derive(Drop)]
+#[derive(Clone, Copy)]
 pub enum Why {
     Store(Refusal),
     ShortTarget,
@@ -23,7 +23,7 @@ pub enum Why {
 }
 
 // What judging says.
-#[derive(Drop)]
+#[derive(Clone, Copy)]
 pub enum Ruling {
     Go,
     Refuse(Why),
