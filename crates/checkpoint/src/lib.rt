@@ -5,7 +5,7 @@ ghost use Rattle.std.specs.Prelude.{◌≡◌, cond, ◌+◌, ◌*◌, ◌≤◌
 ghost use Rattle.record.specs.Rows.{row_at, rows, keep};
 ghost use Rattle.record.specs.Record.{online_width, page_of, committed};
 ghost use Rattle.rules.specs.Lent.{pages_of, last_of, logged_of};
-ghost use Rattle.rules.specs.Areas.{areas, before, after};
+ghost use Rattle.rules.specs.Areas.{areas};
 ghost use Rattle.rules.specs.Shape.{Shaped};
 ghost use Rattle.rules.specs.Steps.{compact_step, checkpointed};
 ghost use Rattle.table.specs.Marks.{mark_pages};
@@ -56,10 +56,10 @@ fn marked_step(
     max_age: u64,
     seen: &[u8],
 ) -> Compacted
-    requires { Shaped (areas fixed marks log stored tables online pool) × (p.0 < pages_of (areas fixed marks log stored tables online pool)) × Noted seen.now (areas fixed marks log stored tables online pool) }
-    ensures reads { result.reads ≡ (compact_step min_del max_age (before fixed marks log stored tables online pool) p.0).reads }
-    ensures writes { result.writes ≡ (compact_step min_del max_age (before fixed marks log stored tables online pool) p.0).writes }
-    ensures lent { after fixed marks log stored tables online pool ≡ (compact_step min_del max_age (before fixed marks log stored tables online pool) p.0).lent }
+    requires { Shaped (areas fixed.now marks.old log.now stored.old tables.old online.old pool.now) × (p.0 < pages_of (areas fixed.now marks.old log.now stored.old tables.old online.old pool.now)) × Noted seen.now (areas fixed.now marks.old log.now stored.old tables.old online.old pool.now) }
+    ensures reads { result.reads ≡ (compact_step min_del max_age (areas fixed.now marks.old log.now stored.old tables.old online.old pool.now) p.0).reads }
+    ensures writes { result.writes ≡ (compact_step min_del max_age (areas fixed.now marks.old log.now stored.old tables.old online.old pool.now) p.0).writes }
+    ensures lent { areas fixed.now marks.new log.now stored.new tables.new online.new pool.now ≡ (compact_step min_del max_age (areas fixed.now marks.old log.now stored.old tables.old online.old pool.now) p.0).lent }
 {
     let at = p.0;
     if seen[at] != 1 {
@@ -86,8 +86,8 @@ fn compact_all(
     max_age: u64,
     seen: &[u8],
 ) -> Compacted
-    requires { Shaped (areas fixed marks log stored tables online pool) × (logged_of (areas fixed marks log stored tables online pool) ≤ last_of (areas fixed marks log stored tables online pool)) × Noted seen.now (areas fixed marks log stored tables online pool) }
-    ensures { Halfway min_del max_age (before fixed marks log stored tables online pool) (after fixed marks log stored tables online pool) result.reads result.writes (pages_of (before fixed marks log stored tables online pool)) }
+    requires { Shaped (areas fixed.now marks.old log.now stored.old tables.old online.old pool.now) × (logged_of (areas fixed.now marks.old log.now stored.old tables.old online.old pool.now) ≤ last_of (areas fixed.now marks.old log.now stored.old tables.old online.old pool.now)) × Noted seen.now (areas fixed.now marks.old log.now stored.old tables.old online.old pool.now) }
+    ensures { Halfway min_del max_age (areas fixed.now marks.old log.now stored.old tables.old online.old pool.now) (areas fixed.now marks.new log.now stored.new tables.new online.new pool.now) result.reads result.writes (pages_of (areas fixed.now marks.old log.now stored.old tables.old online.old pool.now)) }
 {
     let pages = word::load(fixed, layout::PAGES_AT, 4) as usize;
     let mut reads: u32 = 0;
@@ -127,10 +127,10 @@ pub fn checkpoint(
     min_del: u64,
     max_age: u64,
 ) -> Compacted
-    requires { Shaped (areas fixed marks log stored tables online pool) × (logged_of (areas fixed marks log stored tables online pool) ≤ last_of (areas fixed marks log stored tables online pool)) }
-    ensures reads { result.reads ≡ (checkpointed min_del max_age (before fixed marks log stored tables online pool)).reads }
-    ensures writes { result.writes ≡ (checkpointed min_del max_age (before fixed marks log stored tables online pool)).writes }
-    ensures lent { after fixed marks log stored tables online pool ≡ (checkpointed min_del max_age (before fixed marks log stored tables online pool)).lent }
+    requires { Shaped (areas fixed.now marks.old log.old stored.old tables.old online.old pool.now) × (logged_of (areas fixed.now marks.old log.old stored.old tables.old online.old pool.now) ≤ last_of (areas fixed.now marks.old log.old stored.old tables.old online.old pool.now)) }
+    ensures reads { result.reads ≡ (checkpointed min_del max_age (areas fixed.now marks.old log.old stored.old tables.old online.old pool.now)).reads }
+    ensures writes { result.writes ≡ (checkpointed min_del max_age (areas fixed.now marks.old log.old stored.old tables.old online.old pool.now)).writes }
+    ensures lent { areas fixed.now marks.new log.new stored.new tables.new online.new pool.now ≡ (checkpointed min_del max_age (areas fixed.now marks.old log.old stored.old tables.old online.old pool.now)).lent }
 {
     let m = word::load(tables, layout::COUNT_AT, 2) as usize;
     let mut seen = [0u8; 1024];

@@ -6,7 +6,7 @@ ghost use Rattle.record.specs.Part.{with_part};
 ghost use Rattle.record.specs.Rows.{rows, table, keep};
 ghost use Rattle.record.specs.Record.{online_width, log_width, committed, lesser, smallest};
 ghost use Rattle.rules.specs.Lent.{fixed_length, marks_length, stamps_at, closed_at, logged_at, last_in, logged_in, pages_in, log_size_in, last_of, logged_of, dirty_at};
-ghost use Rattle.rules.specs.Areas.{areas, before, after};
+ghost use Rattle.rules.specs.Areas.{areas};
 ghost use Rattle.rules.specs.Shape.{Shaped};
 ghost use Rattle.rules.specs.Steps.{lowered, closed};
 
@@ -173,8 +173,8 @@ pub fn close(
     online: &[u8],
     pool: &[u8],
 )
-    requires { Shaped (areas fixed marks log stored tables online pool) × (logged_of (areas fixed marks log stored tables online pool) ≤ last_of (areas fixed marks log stored tables online pool)) }
-    ensures { after fixed marks log stored tables online pool ≡ (closed (before fixed marks log stored tables online pool)).lent }
+    requires { Shaped (areas fixed.now marks.old log.old stored.now tables.now online.now pool.now) × (logged_of (areas fixed.now marks.old log.old stored.now tables.now online.now pool.now) ≤ last_of (areas fixed.now marks.old log.old stored.now tables.now online.now pool.now)) }
+    ensures { areas fixed.now marks.new log.new stored.now tables.now online.now pool.now ≡ (closed (areas fixed.now marks.old log.old stored.now tables.now online.now pool.now)).lent }
 {
     let m = word::load(tables, layout::COUNT_AT, 2) as usize;
     let x = smallest_committed(online, m);

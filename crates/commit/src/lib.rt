@@ -5,7 +5,7 @@ ghost use Rattle.word.specs.Word.{put};
 ghost use Rattle.record.specs.Rows.{rows, joined, keep};
 ghost use Rattle.record.specs.Record.{online_width, log_width, owned_by, body_of, number_rows};
 ghost use Rattle.rules.specs.Lent.{last_at, logged_at, stamps_at, last_in, logged_in, log_size_of, last_of, logged_of, count_of, live_at};
-ghost use Rattle.rules.specs.Areas.{areas, before, after};
+ghost use Rattle.rules.specs.Areas.{areas};
 ghost use Rattle.rules.specs.Shape.{Shaped};
 ghost use Rattle.rules.specs.Sound.{zeros};
 ghost use Rattle.rules.specs.Steps.{owned, committing};
@@ -63,8 +63,8 @@ pub fn commit(
     pool: &[u8],
     owner: u8,
 ) -> u32
-    requires { Shaped (areas fixed marks log stored tables online pool) × (1 ≤ owner) × (owner ≤ 32) × (logged_of (areas fixed marks log stored tables online pool) + length (owned (areas fixed marks log stored tables online pool) owner) ≤ log_size_of (areas fixed marks log stored tables online pool)) × (last_of (areas fixed marks log stored tables online pool) + length (owned (areas fixed marks log stored tables online pool) owner) ≤ 4294967295) × (zeros (drop (count_of (areas fixed marks log stored tables online pool) * online_width) online.old) ≡ true) × (zeros (drop (logged_of (areas fixed marks log stored tables online pool) * log_width) log.old) ≡ true) }
-    ensures { (result ≡ (committing (before fixed marks log stored tables online pool) owner).logs) × (after fixed marks log stored tables online pool ≡ (committing (before fixed marks log stored tables online pool) owner).lent) }
+    requires { Shaped (areas fixed.now marks.old log.old stored.now tables.old online.old pool.now) × (1 ≤ owner) × (owner ≤ 32) × (logged_of (areas fixed.now marks.old log.old stored.now tables.old online.old pool.now) + length (owned (areas fixed.now marks.old log.old stored.now tables.old online.old pool.now) owner) ≤ log_size_of (areas fixed.now marks.old log.old stored.now tables.old online.old pool.now)) × (last_of (areas fixed.now marks.old log.old stored.now tables.old online.old pool.now) + length (owned (areas fixed.now marks.old log.old stored.now tables.old online.old pool.now) owner) ≤ 4294967295) × (zeros (drop (count_of (areas fixed.now marks.old log.old stored.now tables.old online.old pool.now) * online_width) online.old) ≡ true) × (zeros (drop (logged_of (areas fixed.now marks.old log.old stored.now tables.old online.old pool.now) * log_width) log.old) ≡ true) }
+    ensures { (result ≡ (committing (areas fixed.now marks.old log.old stored.now tables.old online.old pool.now) owner).logs) × (areas fixed.now marks.new log.new stored.now tables.new online.new pool.now ≡ (committing (areas fixed.now marks.old log.old stored.now tables.old online.old pool.now) owner).lent) }
 {
     let m = word::load(tables, layout::COUNT_AT, 2) as usize;
     let k = commit_rows(marks, log, online, m, owner);

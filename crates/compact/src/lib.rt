@@ -10,7 +10,7 @@ ghost use Rattle.order.specs.Meant.{list_of};
 ghost use Rattle.table.specs.Before.{NoneBefore, NoneFrom};
 ghost use Rattle.table.specs.Seen.{Surveyed};
 ghost use Rattle.rules.specs.Lent.{order_at, fixed_length, used_in, pages_of, count_of, page_in, with_page, with_order, with_count, entry_at};
-ghost use Rattle.rules.specs.Areas.{areas, before, after};
+ghost use Rattle.rules.specs.Areas.{areas};
 ghost use Rattle.rules.specs.Shape.{Shaped};
 ghost use Rattle.rules.specs.Steps.{compacted, compact_step};
 ghost use Rattle.compact.specs.Planned.{Measured, Planned};
@@ -227,10 +227,10 @@ fn compact_by(
     p: PageNo,
     s: Survey,
 ) -> Compacted
-    requires { Shaped (areas fixed marks log stored tables online pool) × (p.0 < pages_of (areas fixed marks log stored tables online pool)) × Surveyed p.0 (count_of (areas fixed marks log stored tables online pool)) online.old s }
-    ensures reads { result.reads ≡ (compacted (before fixed marks log stored tables online pool) p.0).reads }
-    ensures writes { result.writes ≡ (compacted (before fixed marks log stored tables online pool) p.0).writes }
-    ensures lent { after fixed marks log stored tables online pool ≡ (compacted (before fixed marks log stored tables online pool) p.0).lent }
+    requires { Shaped (areas fixed.now marks.old log.now stored.old tables.old online.old pool.now) × (p.0 < pages_of (areas fixed.now marks.old log.now stored.old tables.old online.old pool.now)) × Surveyed p.0 (count_of (areas fixed.now marks.old log.now stored.old tables.old online.old pool.now)) online.old s }
+    ensures reads { result.reads ≡ (compacted (areas fixed.now marks.old log.now stored.old tables.old online.old pool.now) p.0).reads }
+    ensures writes { result.writes ≡ (compacted (areas fixed.now marks.old log.now stored.old tables.old online.old pool.now) p.0).writes }
+    ensures lent { areas fixed.now marks.new log.now stored.new tables.new online.new pool.now ≡ (compacted (areas fixed.now marks.old log.now stored.old tables.old online.old pool.now) p.0).lent }
 {
     let z = measure(fixed, tables);
     let plan = plan_for(tables, z, p, s);
@@ -266,10 +266,10 @@ pub fn compact_step(
     min_del: u64,
     max_age: u64,
 ) -> Compacted
-    requires { Shaped (areas fixed marks log stored tables online pool) × (p.0 < pages_of (areas fixed marks log stored tables online pool)) }
-    ensures reads { result.reads ≡ (compact_step min_del max_age (before fixed marks log stored tables online pool) p.0).reads }
-    ensures writes { result.writes ≡ (compact_step min_del max_age (before fixed marks log stored tables online pool) p.0).writes }
-    ensures lent { after fixed marks log stored tables online pool ≡ (compact_step min_del max_age (before fixed marks log stored tables online pool) p.0).lent }
+    requires { Shaped (areas fixed.now marks.old log.now stored.old tables.old online.old pool.now) × (p.0 < pages_of (areas fixed.now marks.old log.now stored.old tables.old online.old pool.now)) }
+    ensures reads { result.reads ≡ (compact_step min_del max_age (areas fixed.now marks.old log.now stored.old tables.old online.old pool.now) p.0).reads }
+    ensures writes { result.writes ≡ (compact_step min_del max_age (areas fixed.now marks.old log.now stored.old tables.old online.old pool.now) p.0).writes }
+    ensures lent { areas fixed.now marks.new log.now stored.new tables.new online.new pool.now ≡ (compact_step min_del max_age (areas fixed.now marks.old log.now stored.old tables.old online.old pool.now) p.0).lent }
 {
     let m = word::load(tables, layout::COUNT_AT, 2) as usize;
     let s = table::survey(online, m, p);

@@ -4,7 +4,7 @@
 ghost use Rattle.std.specs.Prelude.{◌≡◌, ℕ, ◌+◌, ◌*◌, ◌^◌, ◌<◌, ◌≤◌, true, ◌&&◌, List, length, drop};
 ghost use Rattle.record.specs.Rows.{row_at, rows};
 ghost use Rattle.record.specs.Record.{log_width, is_length, well_formed};
-ghost use Rattle.rules.specs.Areas.{before};
+ghost use Rattle.rules.specs.Areas.{areas};
 ghost use Rattle.rules.specs.Sound.{every, up_to, zeros, is_page_size, in_range, exact_lengths, sound_durable};
 ghost use Rattle.rules.specs.Lent.{marks_length};
 ghost use Rattle.durable.specs.Limits.{places_of, most_values};
@@ -207,7 +207,7 @@ pub fn exact_lengths(
     g: Params,
 ) -> bool
     requires { in_range g ≡ true }
-    ensures { result ≡ exact_lengths (before fixed marks log stored tables online pool) g }
+    ensures { result ≡ exact_lengths (areas fixed.now marks.now log.now stored.now tables.now online.now pool.now) g }
 {
     (marks.len() as u64 == layout::STAMPS_AT as u64 + 8 * g.pages)
         & (log.len() as u64 == record::LOG_WIDTH as u64 * g.log)
@@ -257,7 +257,7 @@ pub fn sound_durable(
     online: &[u8],
     pool: &[u8],
 ) -> bool
-    ensures { result ≡ sound_durable (before fixed marks log stored tables online pool) }
+    ensures { result ≡ sound_durable (areas fixed.now marks.now log.now stored.now tables.now online.now pool.now) }
 {
     if fixed.len() != layout::FIXED_LENGTH {
         return false;

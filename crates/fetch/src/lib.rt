@@ -8,7 +8,7 @@ ghost use Rattle.record.specs.Record.{online_width, on_page, apply, applied, row
 ghost use Rattle.order.specs.Order.{touched};
 ghost use Rattle.order.specs.Meant.{list_of};
 ghost use Rattle.rules.specs.Lent.{order_at, fixed_length, count_in, size_of, pages_of, frames_of, online_size_of, count_of, order_of, entry_at, dirty_in, page_in, with_page, with_order, with_entries, with_count};
-ghost use Rattle.rules.specs.Areas.{areas, before};
+ghost use Rattle.rules.specs.Areas.{areas};
 ghost use Rattle.rules.specs.Sound.{zeros};
 ghost use Rattle.rules.specs.Shape.{Shaped};
 ghost use Rattle.rules.specs.Steps.{placed, read_tables, update_tables};
@@ -104,8 +104,8 @@ fn bring_in(
     f: FrameNo,
     p: PageNo,
 )
-    requires { Shaped (areas fixed marks log stored tables online pool) × (p.0 < pages_of (areas fixed marks log stored tables online pool)) × (f.0 < frames_of (areas fixed marks log stored tables online pool)) }
-    ensures { PageBrought (before fixed marks log stored tables online pool) p.0 f.0 tables.new pool.new }
+    requires { Shaped (areas fixed.now marks.now log.now stored.now tables.old online.now pool.old) × (p.0 < pages_of (areas fixed.now marks.now log.now stored.now tables.old online.now pool.old)) × (f.0 < frames_of (areas fixed.now marks.now log.now stored.now tables.old online.now pool.old)) }
+    ensures { PageBrought (areas fixed.now marks.now log.now stored.now tables.old online.now pool.old) p.0 f.0 tables.new pool.new }
 {
     let s = load_sizes(fixed);
     let size = s.size;
@@ -129,8 +129,8 @@ pub fn fetch(
     order: Order,
     p: PageNo,
 ) -> Fetched
-    requires { Shaped (areas fixed marks log stored tables online pool) × (p.0 < pages_of (areas fixed marks log stored tables online pool)) × (list_of order ≡ order_of (areas fixed marks log stored tables online pool)) × (order.used ≤ 64) }
-    ensures { PageFetched (before fixed marks log stored tables online pool) p.0 result.frame.0 result.reads tables.new pool.new }
+    requires { Shaped (areas fixed.now marks.now log.now stored.now tables.old online.now pool.old) × (p.0 < pages_of (areas fixed.now marks.now log.now stored.now tables.old online.now pool.old)) × (list_of order ≡ order_of (areas fixed.now marks.now log.now stored.now tables.old online.now pool.old)) × (order.used ≤ 64) }
+    ensures { PageFetched (areas fixed.now marks.now log.now stored.now tables.old online.now pool.old) p.0 result.frame.0 result.reads tables.new pool.new }
 {
     let s = load_sizes(fixed);
     let frames = s.frames;
@@ -166,8 +166,8 @@ fn use_page(
     pool: &mut [u8],
     p: PageNo,
 ) -> Fetched
-    requires { Shaped (areas fixed marks log stored tables online pool) × (p.0 < pages_of (areas fixed marks log stored tables online pool)) }
-    ensures { PageUsed (before fixed marks log stored tables online pool) p.0 result.frame.0 result.reads tables.new pool.new (read_tables (before fixed marks log stored tables online pool) p.0) }
+    requires { Shaped (areas fixed.now marks.now log.now stored.now tables.old online.now pool.old) × (p.0 < pages_of (areas fixed.now marks.now log.now stored.now tables.old online.now pool.old)) }
+    ensures { PageUsed (areas fixed.now marks.now log.now stored.now tables.old online.now pool.old) p.0 result.frame.0 result.reads tables.new pool.new (read_tables (areas fixed.now marks.now log.now stored.now tables.old online.now pool.old) p.0) }
 {
     let s = load_sizes(fixed);
     let frames = s.frames;
@@ -202,8 +202,8 @@ pub fn read(
     offset: usize,
     w: usize,
 ) -> u32
-    requires { Shaped (areas fixed marks log stored tables online pool) × (p.0 < pages_of (areas fixed marks log stored tables online pool)) × (offset + w ≤ size_of (areas fixed marks log stored tables online pool)) × (w ≤ length buffer.old) }
-    ensures { ReadDone (before fixed marks log stored tables online pool) p.0 offset w result tables.new pool.new buffer.old buffer.new }
+    requires { Shaped (areas fixed.now marks.now log.now stored.now tables.old online.now pool.old) × (p.0 < pages_of (areas fixed.now marks.now log.now stored.now tables.old online.now pool.old)) × (offset + w ≤ size_of (areas fixed.now marks.now log.now stored.now tables.old online.now pool.old)) × (w ≤ length buffer.old) }
+    ensures { ReadDone (areas fixed.now marks.now log.now stored.now tables.old online.now pool.old) p.0 offset w result tables.new pool.new buffer.old buffer.new }
 {
     let s = load_sizes(fixed);
     let size = s.size;
@@ -243,8 +243,8 @@ fn change_page(
     pool: &mut [u8],
     p: PageNo,
 ) -> Fetched
-    requires { Shaped (areas fixed marks log stored tables online pool) × (p.0 < pages_of (areas fixed marks log stored tables online pool)) }
-    ensures { PageUsed (before fixed marks log stored tables online pool) p.0 result.frame.0 result.reads tables.new pool.new (update_tables (before fixed marks log stored tables online pool) p.0) }
+    requires { Shaped (areas fixed.now marks.now log.now stored.now tables.old online.now pool.old) × (p.0 < pages_of (areas fixed.now marks.now log.now stored.now tables.old online.now pool.old)) }
+    ensures { PageUsed (areas fixed.now marks.now log.now stored.now tables.old online.now pool.old) p.0 result.frame.0 result.reads tables.new pool.new (update_tables (areas fixed.now marks.now log.now stored.now tables.old online.now pool.old) p.0) }
 {
     let s = load_sizes(fixed);
     let frames = s.frames;
@@ -282,8 +282,8 @@ pub fn update(
     v: u64,
     owner: u8,
 ) -> u32
-    requires { Shaped (areas fixed marks log stored tables online pool) × (p.0 < pages_of (areas fixed marks log stored tables online pool)) × (offset + w ≤ size_of (areas fixed marks log stored tables online pool)) × (w ≤ 8) × (count_of (areas fixed marks log stored tables online pool) < online_size_of (areas fixed marks log stored tables online pool)) × (zeros (drop (count_of (areas fixed marks log stored tables online pool) * online_width) online.old) ≡ true) }
-    ensures { UpdateDone (before fixed marks log stored tables online pool) (row_of p.0 offset w kind v owner) result tables.new online.new pool.new }
+    requires { Shaped (areas fixed.now marks.now log.now stored.now tables.old online.old pool.old) × (p.0 < pages_of (areas fixed.now marks.now log.now stored.now tables.old online.old pool.old)) × (offset + w ≤ size_of (areas fixed.now marks.now log.now stored.now tables.old online.old pool.old)) × (w ≤ 8) × (count_of (areas fixed.now marks.now log.now stored.now tables.old online.old pool.old) < online_size_of (areas fixed.now marks.now log.now stored.now tables.old online.old pool.old)) × (zeros (drop (count_of (areas fixed.now marks.now log.now stored.now tables.old online.old pool.old) * online_width) online.old) ≡ true) }
+    ensures { UpdateDone (areas fixed.now marks.now log.now stored.now tables.old online.old pool.old) (row_of p.0 offset w kind v owner) result tables.new online.new pool.new }
 {
     let s = load_sizes(fixed);
     let size = s.size;

@@ -3,7 +3,7 @@
 ghost use Rattle.std.specs.Prelude.{◌≡◌, ◌+◌, ◌*◌, ◌≤◌, length, replicate};
 ghost use Rattle.word.specs.Word.{put};
 ghost use Rattle.rules.specs.Lent.{last_at, closed_at, fixed_length, marks_length, fixed_of};
-ghost use Rattle.rules.specs.Areas.{before, after};
+ghost use Rattle.rules.specs.Areas.{areas};
 ghost use Rattle.rules.specs.Steps.{stamped, formatted};
 
 use rules::Params;
@@ -56,7 +56,7 @@ pub fn format(
     last: u64,
 )
     requires { (length fixed.old ≡ fixed_length) × (length marks.old ≡ marks_length g.pages) × (g.pages ≤ 1024) }
-    ensures { after fixed marks log stored tables online pool ≡ (formatted (before fixed marks log stored tables online pool) g last).lent }
+    ensures { areas fixed.new marks.new log.new stored.now tables.new online.new pool.now ≡ (formatted (areas fixed.old marks.old log.old stored.now tables.old online.old pool.now) g last).lent }
 {
     write_fixed(fixed, g);
     write_marks(marks, g.pages, last);

@@ -6,7 +6,7 @@ ghost use Rattle.record.specs.Part.{with_part};
 ghost use Rattle.record.specs.Rows.{row_at, rows, joined};
 ghost use Rattle.record.specs.Record.{online_width, log_width, page_of, entered};
 ghost use Rattle.rules.specs.Lent.{order_at, marks_length, stamps_at, last_in, logged_in, pages_in, frames_in, entry_at};
-ghost use Rattle.rules.specs.Areas.{areas, before, after};
+ghost use Rattle.rules.specs.Areas.{areas};
 ghost use Rattle.rules.specs.Steps.{entering_all, evicted_all, restarted};
 ghost use Rattle.restart.specs.Enter.{enters_by, entering_by, first_by, all_by, Logged, Readable, Restartable, Restarts};
 
@@ -76,8 +76,8 @@ pub fn count_entering(
     online: &[u8],
     pool: &[u8],
 ) -> usize
-    requires { Restartable (areas fixed marks log stored tables online pool) }
-    ensures { result ≡ length (entering_all (before fixed marks log stored tables online pool)) }
+    requires { Restartable (areas fixed.now marks.now log.now stored.now tables.now online.now pool.now) }
+    ensures { result ≡ length (entering_all (areas fixed.now marks.now log.now stored.now tables.now online.now pool.now)) }
 {
     count_all(fixed, marks, log)
 }
@@ -163,8 +163,8 @@ pub fn restart(
     online: &mut [u8],
     pool: &[u8],
 )
-    requires { Restarts (areas fixed marks log stored tables online pool) }
-    ensures { after fixed marks log stored tables online pool ≡ (restarted (before fixed marks log stored tables online pool)).lent }
+    requires { Restarts (areas fixed.now marks.now log.now stored.now tables.old online.old pool.now) }
+    ensures { areas fixed.now marks.now log.now stored.now tables.new online.new pool.now ≡ (restarted (areas fixed.now marks.now log.now stored.now tables.old online.old pool.now)).lent }
 {
     fill::wipe(tables);
     fill::wipe(online);

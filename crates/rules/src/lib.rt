@@ -1,6 +1,7 @@
 // The answers of the store, and the numbers that document 01 gives them. The definitions that every promise cites are
 // in specs/: the lent bytes and their views, sound tables, the steps, the calls.
 #![tactic(auto)]
+
 ghost use Rattle.std.specs.Prelude.{◌≡◌};
 ghost use Rattle.rules.specs.Answers.{code_of, reply_of};
 

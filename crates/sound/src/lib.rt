@@ -4,7 +4,7 @@
 ghost use Rattle.std.specs.Prelude.{◌≡◌, true, ◌&&◌, ◌+◌, ◌*◌, ◌≤◌, ◌<◌, length};
 ghost use Rattle.pagetable.specs.Test.{tables_test};
 ghost use Rattle.onlinecheck.specs.Online.{online_test};
-ghost use Rattle.rules.specs.Areas.{areas, before};
+ghost use Rattle.rules.specs.Areas.{areas};
 ghost use Rattle.rules.specs.Sound.{sound_durable, sound_lost, sound};
 ghost use Rattle.record.specs.Record.{online_width, log_width};
 ghost use Rattle.rules.specs.Lent.{order_at, marks_length, count_in, last_in, logged_in};
@@ -47,8 +47,8 @@ fn sound_lost(
     online: &[u8],
     pool: &[u8],
 ) -> bool
-    requires { sound_durable (areas fixed marks log stored tables online pool) ≡ true }
-    ensures { result ≡ sound_lost (before fixed marks log stored tables online pool) }
+    requires { sound_durable (areas fixed.now marks.now log.now stored.now tables.now online.now pool.now) ≡ true }
+    ensures { result ≡ sound_lost (areas fixed.now marks.now log.now stored.now tables.now online.now pool.now) }
 {
     lost_at(marks, log, tables, online, layout::params_of(fixed))
 }
@@ -62,7 +62,7 @@ pub fn is_sound(
     online: &[u8],
     pool: &[u8],
 ) -> bool
-    ensures { result ≡ sound (before fixed marks log stored tables online pool) }
+    ensures { result ≡ sound (areas fixed.now marks.now log.now stored.now tables.now online.now pool.now) }
 {
     if !durable::sound_durable(fixed, marks, log, stored, tables, online, pool) {
         return false;

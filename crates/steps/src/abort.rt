@@ -6,7 +6,7 @@ ghost use Rattle.record.specs.Record.{online_width, page_of, on_page, owned_by};
 ghost use Rattle.order.specs.Meant.{list_of};
 ghost use Rattle.table.specs.Stays.{stays};
 ghost use Rattle.rules.specs.Lent.{order_at, used_in, live_at, entry_at, with_order, with_count};
-ghost use Rattle.rules.specs.Areas.{areas, before, after};
+ghost use Rattle.rules.specs.Areas.{areas};
 ghost use Rattle.rules.specs.Shape.{Shaped};
 ghost use Rattle.rules.specs.Steps.{freed_of, frames_freed, judged_anew, aborted};
 ghost use Rattle.table.specs.Marks.{mark_pages};
@@ -193,8 +193,8 @@ pub fn abort(
     pool: &[u8],
     owner: u8,
 )
-    requires { Shaped (areas fixed marks log stored tables online pool) × (owner ≤ 32) }
-    ensures { after fixed marks log stored tables online pool ≡ (aborted (before fixed marks log stored tables online pool) owner).lent }
+    requires { Shaped (areas fixed.now marks.now log.now stored.now tables.old online.old pool.now) × (owner ≤ 32) }
+    ensures { areas fixed.now marks.now log.now stored.now tables.new online.new pool.now ≡ (aborted (areas fixed.now marks.now log.now stored.now tables.old online.old pool.now) owner).lent }
 {
     let given = layout::params_of(fixed);
     let m = word::load(tables, layout::COUNT_AT, 2) as usize;

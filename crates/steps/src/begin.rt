@@ -2,7 +2,7 @@
 ghost use Rattle.std.specs.Prelude.{◌≡◌, true, false, ◌+◌, ◌≤◌, length, set};
 ghost use Rattle.record.specs.Part.{part, with_part};
 ghost use Rattle.rules.specs.Lent.{order_at, last_in, live_at};
-ghost use Rattle.rules.specs.Areas.{areas, before, after};
+ghost use Rattle.rules.specs.Areas.{areas};
 ghost use Rattle.rules.specs.Shape.{Shaped};
 ghost use Rattle.rules.specs.Steps.{begun};
 ghost use Rattle.rules.specs.Calls.{is_number, is_live};
@@ -54,8 +54,8 @@ pub fn begin(
     pool: &[u8],
     x: u32,
 )
-    requires { Shaped (areas fixed marks log stored tables online pool) × (is_number x ≡ true) × (is_live tables.old x ≡ false) }
-    ensures { after fixed marks log stored tables online pool ≡ (begun (before fixed marks log stored tables online pool) x).lent }
+    requires { Shaped (areas fixed.now marks.now log.now stored.now tables.old online.now pool.now) × (is_number x ≡ true) × (is_live tables.old x ≡ false) }
+    ensures { areas fixed.now marks.now log.now stored.now tables.new online.now pool.now ≡ (begun (areas fixed.now marks.now log.now stored.now tables.old online.now pool.now) x).lent }
 {
     make_live(marks, tables, x);
 }

@@ -3,7 +3,7 @@ ghost use Rattle.std.specs.Prelude.{◌≡◌, true, ◌+◌, ◌%◌, ◌≤◌
 ghost use Rattle.record.specs.Part.{part};
 ghost use Rattle.order.specs.Order.{without};
 ghost use Rattle.rules.specs.Lent.{order_at, used_in, pages_of, entry_at, entry_of, in_frame, frame_of, with_order};
-ghost use Rattle.rules.specs.Areas.{areas, before, after};
+ghost use Rattle.rules.specs.Areas.{areas};
 ghost use Rattle.rules.specs.Shape.{Shaped};
 ghost use Rattle.rules.specs.Steps.{evicted};
 
@@ -32,8 +32,8 @@ pub fn evict(
     pool: &[u8],
     p: PageNo,
 )
-    requires { Shaped (areas fixed marks log stored tables online pool) × (p.0 < pages_of (areas fixed marks log stored tables online pool)) × (in_frame (entry_of (areas fixed marks log stored tables online pool) p.0) ≡ true) }
-    ensures { after fixed marks log stored tables online pool ≡ (evicted (before fixed marks log stored tables online pool) p.0).lent }
+    requires { Shaped (areas fixed.now marks.now log.now stored.now tables.old online.now pool.now) × (p.0 < pages_of (areas fixed.now marks.now log.now stored.now tables.old online.now pool.now)) × (in_frame (entry_of (areas fixed.now marks.now log.now stored.now tables.old online.now pool.now) p.0) ≡ true) }
+    ensures { areas fixed.now marks.now log.now stored.now tables.new online.now pool.now ≡ (evicted (areas fixed.now marks.now log.now stored.now tables.old online.now pool.now) p.0).lent }
 {
     let given = layout::params_of(fixed);
     vacate(tables, given.frames as usize, p);

@@ -4,7 +4,7 @@
 ghost use Rattle.std.specs.Prelude.{◌≡◌, true, ◌&&◌, ◌≤◌, length, get_or, eqb};
 ghost use Rattle.rules.specs.Sound.{in_range, exact_lengths};
 ghost use Rattle.rules.specs.Lent.{fixed_length, entry_at};
-ghost use Rattle.rules.specs.Areas.{before};
+ghost use Rattle.rules.specs.Areas.{areas};
 ghost use Rattle.rules.specs.Calls.{judge_begin, judge_read, judge_update, judge_commit, judge_abort, judge_evict, judge_compact, judge_close, judge_checkpoint, judge_restart, judge_format};
 
 use rules::{Bad, Params, Refusal, Verdict};
@@ -19,7 +19,7 @@ pub fn judge_begin(
     pool: &[u8],
     x: u32,
 ) -> Verdict
-    ensures { result ≡ judge_begin (before fixed marks log stored tables online pool) x }
+    ensures { result ≡ judge_begin (areas fixed.now marks.now log.now stored.now tables.now online.now pool.now) x }
 {
     if !sound::is_sound(fixed, marks, log, stored, tables, online, pool) {
         return Verdict::Refuse(Refusal::NotSound);
@@ -37,7 +37,7 @@ pub fn judge_abort(
     pool: &[u8],
     x: u32,
 ) -> Verdict
-    ensures { result ≡ judge_abort (before fixed marks log stored tables online pool) x }
+    ensures { result ≡ judge_abort (areas fixed.now marks.now log.now stored.now tables.now online.now pool.now) x }
 {
     if !sound::is_sound(fixed, marks, log, stored, tables, online, pool) {
         return Verdict::Refuse(Refusal::NotSound);
@@ -54,7 +54,7 @@ pub fn judge_close(
     online: &[u8],
     pool: &[u8],
 ) -> Verdict
-    ensures { result ≡ judge_close (before fixed marks log stored tables online pool) }
+    ensures { result ≡ judge_close (areas fixed.now marks.now log.now stored.now tables.now online.now pool.now) }
 {
     if !sound::is_sound(fixed, marks, log, stored, tables, online, pool) {
         return Verdict::Refuse(Refusal::NotSound);
@@ -73,7 +73,7 @@ pub fn judge_checkpoint(
     min_del: u32,
     max_age: u32,
 ) -> Verdict
-    ensures { result ≡ judge_checkpoint (before fixed marks log stored tables online pool) min_del max_age }
+    ensures { result ≡ judge_checkpoint (areas fixed.now marks.now log.now stored.now tables.now online.now pool.now) min_del max_age }
 {
     if !sound::is_sound(fixed, marks, log, stored, tables, online, pool) {
         return Verdict::Refuse(Refusal::NotSound);
@@ -93,7 +93,7 @@ pub fn judge_compact(
     min_del: u32,
     max_age: u32,
 ) -> Verdict
-    ensures { result ≡ judge_compact (before fixed marks log stored tables online pool) p min_del max_age }
+    ensures { result ≡ judge_compact (areas fixed.now marks.now log.now stored.now tables.now online.now pool.now) p min_del max_age }
 {
     if !sound::is_sound(fixed, marks, log, stored, tables, online, pool) {
         return Verdict::Refuse(Refusal::NotSound);
@@ -112,7 +112,7 @@ pub fn judge_evict(
     pool: &[u8],
     p: u32,
 ) -> Verdict
-    ensures { result ≡ judge_evict (before fixed marks log stored tables online pool) p }
+    ensures { result ≡ judge_evict (areas fixed.now marks.now log.now stored.now tables.now online.now pool.now) p }
 {
     if !sound::is_sound(fixed, marks, log, stored, tables, online, pool) {
         return Verdict::Refuse(Refusal::NotSound);
@@ -136,7 +136,7 @@ pub fn judge_read(
     offset: u32,
     w: u32,
 ) -> Verdict
-    ensures { result ≡ judge_read (before fixed marks log stored tables online pool) room x p offset w }
+    ensures { result ≡ judge_read (areas fixed.now marks.now log.now stored.now tables.now online.now pool.now) room x p offset w }
 {
     if !sound::is_sound(fixed, marks, log, stored, tables, online, pool) {
         return Verdict::Refuse(Refusal::NotSound);
@@ -172,7 +172,7 @@ pub fn judge_update(
     kind: u32,
     v: u64,
 ) -> Verdict
-    ensures { result ≡ judge_update (before fixed marks log stored tables online pool) x p offset w kind v }
+    ensures { result ≡ judge_update (areas fixed.now marks.now log.now stored.now tables.now online.now pool.now) x p offset w kind v }
 {
     if !sound::is_sound(fixed, marks, log, stored, tables, online, pool) {
         return Verdict::Refuse(Refusal::NotSound);
@@ -205,7 +205,7 @@ pub fn judge_commit(
     pool: &[u8],
     x: u32,
 ) -> Verdict
-    ensures { result ≡ judge_commit (before fixed marks log stored tables online pool) x }
+    ensures { result ≡ judge_commit (areas fixed.now marks.now log.now stored.now tables.now online.now pool.now) x }
 {
     if !sound::is_sound(fixed, marks, log, stored, tables, online, pool) {
         return Verdict::Refuse(Refusal::NotSound);
@@ -230,7 +230,7 @@ pub fn judge_restart(
     online: &[u8],
     pool: &[u8],
 ) -> Verdict
-    ensures { result ≡ judge_restart (before fixed marks log stored tables online pool) }
+    ensures { result ≡ judge_restart (areas fixed.now marks.now log.now stored.now tables.now online.now pool.now) }
 {
     if !durable::sound_durable(fixed, marks, log, stored, tables, online, pool) {
         return Verdict::Refuse(Refusal::NotSound);
@@ -254,7 +254,7 @@ pub fn judge_format(
     g: Params,
     last: u32,
 ) -> Verdict
-    ensures { result ≡ judge_format (before fixed marks log stored tables online pool) g last }
+    ensures { result ≡ judge_format (areas fixed.now marks.now log.now stored.now tables.now online.now pool.now) g last }
 {
     // every number of 32 bits is in L's range
     if !durable::in_range(g) {
@@ -290,7 +290,7 @@ fn lengths(
     g: Params,
 ) -> bool
     requires { in_range g ≡ true }
-    ensures { result ≡ (eqb (length fixed.now) fixed_length && exact_lengths (before fixed marks log stored tables online pool) g) }
+    ensures { result ≡ (eqb (length fixed.now) fixed_length && exact_lengths (areas fixed.now marks.now log.now stored.now tables.now online.now pool.now) g) }
 {
     if fixed.len() != layout::FIXED_LENGTH {
         return false;

@@ -4,7 +4,7 @@
 ghost use Rattle.std.specs.Prelude.{◌≡◌, true, cond, ◌++◌, ◌+◌, ◌*◌, ◌-◌, ◌≤◌, ◌<◌, length, take, drop};
 ghost use Rattle.record.specs.Rows.{rows, keep};
 ghost use Rattle.record.specs.Record.{committed_on, applied};
-ghost use Rattle.rules.specs.Areas.{before};
+ghost use Rattle.rules.specs.Areas.{areas};
 ghost use Rattle.wal.specs.Layout.{frame_size};
 ghost use Rattle.wal.specs.Written.{image_sums, frame_bytes, frames_bytes, written};
 ghost use Rattle.walwrite.specs.Image.{image_in};
@@ -79,7 +79,7 @@ fn judge_write(
     room: usize,
     order: u32,
 ) -> Ruling
-    ensures { result ≡ judge_write (before fixed marks log stored tables online pool) list.now room order }
+    ensures { result ≡ judge_write (areas fixed.now marks.now log.now stored.now tables.now online.now pool.now) list.now room order }
 {
     if !sound::is_sound(fixed, marks, log, stored, tables, online, pool) {
         return Ruling::Refuse(Why::Store(Refusal::NotSound));
@@ -253,7 +253,7 @@ pub extern "C" fn ventarico_wal_write(
     sequence: u32,
     order: u32,
 ) -> Reply
-    ensures { record { reply = result; target = target.new } ≡ write_call (before fixed marks log stored tables online pool) list.now target.old salt_1 salt_2 sequence order }
+    ensures { record { reply = result; target = target.new } ≡ write_call (areas fixed.now marks.now log.now stored.now tables.now online.now pool.now) list.now target.old salt_1 salt_2 sequence order }
 {
     let room = target.len();
     let v = judge_write(

@@ -23,7 +23,7 @@ compact-all-requires c κs =
     let s = c.before.before.before.before.before.before.before.before.before.before.before.before.before.before.before.before.before.before.before in
     let a = s.args in
     let k = c.before.before.before.before.before.before.before.mark-committed in
-    (s.requires.0, s.requires.1, noted_all k.new.0 (areas a.fixed a.marks a.log a.stored a.tables a.online a.pool) _ c.before.before.before.before.before.before.before.before.before.before.load.ensures.0 k.ensures)
+    (s.requires.0, s.requires.1, noted_all k.new.0 (areas a.fixed.now a.marks.now a.log.now a.stored.now a.tables.now a.online.now a.pool.now) _ c.before.before.before.before.before.before.before.before.before.before.load.ensures.0 k.ensures)
 
 close-requires : tie.Need-close-requires
 close-requires c κs =

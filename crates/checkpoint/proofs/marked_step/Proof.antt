@@ -12,7 +12,7 @@ returns : tie.Need-returns
 returns c =
     let s = c.before.before.before.before.before.before.before.before.before.before in
     let a = s.args in
-    step_unmarked a.min-del a.max-age a.seen.now (areas a.fixed a.marks a.log a.stored a.tables a.online a.pool) a.p.0 s.requires.0 s.requires.1 s.requires.2 c.if1.true
+    step_unmarked a.min-del a.max-age a.seen.now (areas a.fixed.now a.marks.now a.log.now a.stored.now a.tables.now a.online.now a.pool.now) a.p.0 s.requires.0 s.requires.1 s.requires.2 c.if1.true
 
 compact-step-requires : tie.Need-compact-step-requires
 compact-step-requires c κs = search rules

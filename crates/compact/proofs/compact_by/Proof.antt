@@ -60,7 +60,7 @@ returns c =
     let q = planned_seen a.fixed.now a.tables.now a.online.now a.p.0 _ m.result a.s k.result m.ensures s.requires.2 k.ensures in (
       reads_done a.fixed.now a.marks.now a.log.now a.stored.now a.tables.now a.online.now a.pool.now a.p.0 m.result k.result m.ensures q,
       (
-        writes_done (areas a.fixed a.marks a.log a.stored a.tables a.online a.pool) a.p.0,
+        writes_done (areas a.fixed.now a.marks.now a.log.now a.stored.now a.tables.now a.online.now a.pool.now) a.p.0,
         lent_done a.fixed.now a.marks.now a.log.now a.stored.now a.tables.now a.online.now a.pool.now a.p.0 m.result k.result m.ensures q a.s s.requires.2 _ _ _ _
             c.before.before.before.before.before.before.before.before.before.before.before.before.before.before.write_page.ensures c.before.before.before.before.before.before.before.before.before.compact_lost.ensures.0 c.before.before.before.before.before.before.before.before.before.compact_lost.ensures.1 c.before.before.store.ensures,
       ),

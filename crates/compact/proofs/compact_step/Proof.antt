@@ -33,7 +33,7 @@ returns : tie.Need-returns
 returns c =
     let a = c.before.before.before.before.before.before.before.before.before.before.before.before.before.before.before.before.args in
     let v = c.before.before.before.before.before.survey.ensures in
-    step_not a.min-del a.max-age a.p.0 (areas a.fixed a.marks a.log a.stored a.tables a.online a.pool) _
+    step_not a.min-del a.max-age a.p.0 (areas a.fixed.now a.marks.now a.log.now a.stored.now a.tables.now a.online.now a.pool.now) _
     (due_read a.fixed.now a.marks.now a.log.now a.stored.now a.tables.now a.online.now a.pool.now a.p.0 a.min-del a.max-age _ _ _ _ _ _
     c.before.before.before.before.before.before.before.load.ensures.0 v.committed v.least c.before.before.before.load2.ensures.0 c.before.before.age.ensures c.before.due-by.ensures)
     c.if1.true
@@ -43,7 +43,7 @@ compact-by-requires c κs =
     let s = c.before.before.before.before.before.before.before.before.before.before.before.before.before.before.before.before.before.before.before.before in
     let a = s.args in
     let v = c.before.before.before.before.before.before.before.before.before.survey in
-    (s.requires.0, s.requires.1, surveyed_all a.p.0 _ (areas a.fixed a.marks a.log a.stored a.tables a.online a.pool) v.result c.before.before.before.before.before.before.before.before.before.before.before.load.ensures.0 v.ensures)
+    (s.requires.0, s.requires.1, surveyed_all a.p.0 _ (areas a.fixed.now a.marks.now a.log.now a.stored.now a.tables.now a.online.now a.pool.now) v.result c.before.before.before.before.before.before.before.before.before.before.before.load.ensures.0 v.ensures)
 
 same-length-4 : tie.Need-same-length-4
 same-length-4 c = search rules
@@ -61,7 +61,7 @@ returns-2 : tie.Need-returns-2
 returns-2 c =
     let a = c.before.before.before.before.before.before.before.before.before.before.before.before.before.before.before.before.before.before.before.before.before.before.before.before.before.before.before.before.before.args in
     let v = c.before.before.before.before.before.before.before.before.before.before.before.before.before.before.before.before.before.before.survey.ensures in
-    step_is a.min-del a.max-age a.p.0 _ _ (areas a.fixed a.marks a.log a.stored a.tables a.online a.pool) _ _
+    step_is a.min-del a.max-age a.p.0 _ _ (areas a.fixed.now a.marks.now a.log.now a.stored.now a.tables.now a.online.now a.pool.now) _ _
     (due_read a.fixed.now a.marks.now a.log.now a.stored.now a.tables.now a.online.now a.pool.now a.p.0 a.min-del a.max-age _ _ _ _ _ _
     c.before.before.before.before.before.before.before.before.before.before.before.before.before.before.before.before.before.before.before.before.load.ensures.0 v.committed v.least c.before.before.before.before.before.before.before.before.before.before.before.before.before.before.before.before.load2.ensures.0 c.before.before.before.before.before.before.before.before.before.before.before.before.before.before.before.age.ensures c.before.before.before.before.before.before.before.before.before.before.before.before.before.before.due-by.ensures)
     c.before.before.before.before.before.before.before.before.before.before.before.before.before.if1.false c.before.before.before.before.before.before.before.before.compact-by.ensures

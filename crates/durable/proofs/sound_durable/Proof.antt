@@ -11,7 +11,7 @@ use Rattle.durable.proofs.sound_durable.Tie as tie
 returns : tie.Need-returns
 returns c =
     let a = c.before.before.before.before.before.before.before.before.args in
-    let s = areas a.fixed a.marks a.log a.stored a.tables a.online a.pool in
+    let s = areas a.fixed.now a.marks.now a.log.now a.stored.now a.tables.now a.online.now a.pool.now in
     durable_fixed s c.if1.true
 
 params-of-requires : tie.Need-params-of-requires
@@ -23,7 +23,7 @@ in-range-requires c κs = search rules
 returns-2 : tie.Need-returns-2
 returns-2 c =
     let a = c.before.before.before.before.before.before.before.before.before.before.before.args in
-    let s = areas a.fixed a.marks a.log a.stored a.tables a.online a.pool in
+    let s = areas a.fixed.now a.marks.now a.log.now a.stored.now a.tables.now a.online.now a.pool.now in
     let p = c.before.before.params_of.result in
     durable_range s p
     c.before.before.before.if1.false c.before.before.params_of.ensures
@@ -35,7 +35,7 @@ exact-lengths-requires c κs = so _ _ c.before.number_in_range.ensures c.if2.fal
 returns-3 : tie.Need-returns-3
 returns-3 c =
     let a = c.before.before.before.before.before.before.before.before.before.before.before.before.before.args in
-    let s = areas a.fixed a.marks a.log a.stored a.tables a.online a.pool in
+    let s = areas a.fixed.now a.marks.now a.log.now a.stored.now a.tables.now a.online.now a.pool.now in
     let p = c.before.before.before.before.params_of.result in
     durable_lengths s p
     c.before.before.before.before.before.if1.false c.before.before.before.before.params_of.ensures
@@ -45,7 +45,7 @@ returns-3 c =
 sound-marks-requires : tie.Need-sound-marks-requires
 sound-marks-requires c κs =
     let a = c.before.before.before.before.before.before.before.before.before.before.before.before.before.args in
-    let s = areas a.fixed a.marks a.log a.stored a.tables a.online a.pool in
+    let s = areas a.fixed.now a.marks.now a.log.now a.stored.now a.tables.now a.online.now a.pool.now in
     let p = c.before.before.before.before.params_of.result in
     let l = lengths_marks s p c.before.exact-lengths.ensures c.if3.false in
     let r = ranged p (so _ (in_range p) c.before.before.before.number_in_range.ensures c.before.before.if2.false) in
@@ -54,7 +54,7 @@ sound-marks-requires c κs =
 returns-4 : tie.Need-returns-4
 returns-4 c =
     let a = c.before.before.before.before.before.before.before.before.before.before.before.before.before.before.args in
-    let s = areas a.fixed a.marks a.log a.stored a.tables a.online a.pool in
+    let s = areas a.fixed.now a.marks.now a.log.now a.stored.now a.tables.now a.online.now a.pool.now in
     let p = c.before.before.before.before.before.params_of.result in
     durable_marks s p
     c.before.before.before.before.before.before.if1.false c.before.before.before.before.before.params_of.ensures

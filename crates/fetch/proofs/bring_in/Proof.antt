@@ -18,7 +18,7 @@ fill-frame-requires : tie.Need-fill-frame-requires
 fill-frame-requires c κs =
     let a = c.before.before.before.before.before.before.before.before.before.before.before.before.before.args in
     let h = c.before.before.before.before.before.before.before.before.before.before.before.before.before.requires in
-    fill_fits (areas a.fixed a.marks a.log a.stored a.tables a.online a.pool) a.p.0 a.f.0 _ _ h.0 h.1 h.2 c.before.before.before.before.before.load-sizes.ensures.size c.before.before.before.count_of.ensures.0
+    fill_fits (areas a.fixed.now a.marks.now a.log.now a.stored.now a.tables.now a.online.now a.pool.now) a.p.0 a.f.0 _ _ h.0 h.1 h.2 c.before.before.before.before.before.load-sizes.ensures.size c.before.before.before.count_of.ensures.0
 
 take-frame-requires : tie.Need-take-frame-requires
 take-frame-requires c κs = search rules
@@ -32,7 +32,7 @@ same-length-2 c = search rules
 returns : tie.Need-returns
 returns c =
     let a = c.before.before.before.before.before.before.before.before.before.before.before.before.before.before.before.before.before.before.before.before.args in
-    brought (areas a.fixed a.marks a.log a.stored a.tables a.online a.pool) a.p.0 a.f.0 _ _ _ _ _ _ _ c.before.before.before.before.before.before.before.before.before.before.before.before.load-sizes.ensures c.before.before.before.before.before.before.before.before.before.before.count_of.ensures.0 c.before.before.before.before.before.before.before.before.entry_of.ensures.0 c.before.before.take-frame.ensures c.before.before.before.before.before.before.fill_frame.ensures
+    brought (areas a.fixed.now a.marks.now a.log.now a.stored.now a.tables.now a.online.now a.pool.now) a.p.0 a.f.0 _ _ _ _ _ _ _ c.before.before.before.before.before.before.before.before.before.before.before.before.load-sizes.ensures c.before.before.before.before.before.before.before.before.before.before.count_of.ensures.0 c.before.before.before.before.before.before.before.before.entry_of.ensures.0 c.before.before.take-frame.ensures c.before.before.before.before.before.before.fill_frame.ensures
 
 pub bring-in-spec : {M : Type 1} → statement M
 bring-in-spec =

@@ -44,7 +44,7 @@ returns : tie.Need-returns
 returns c =
     let a = c.before.before.before.before.before.before.before.before.before.before.before.before.before.before.before.before.before.before.before.before.before.before.before.before.args in
     let h = c.before.before.before.before.before.before.before.before.before.before.before.before.before.before.before.before.before.before.before.before.before.before.before.before.requires in
-    changed (areas a.fixed a.marks a.log a.stored a.tables a.online a.pool) a.p.0 _ _ _ _ _ _ _ _ _ _ h.0 h.1 c.before.before.before.before.before.before.before.before.before.before.before.before.before.before.before.before.load-sizes.ensures c.before.before.before.before.before.before.before.before.before.before.before.before.before.before.count_of.ensures.0 c.before.before.before.before.before.before.before.before.before.before.before.before.load-order.ensures.0 c.before.before.before.before.before.before.before.before.before.fetch.ensures c.before.before.note-change.ensures
+    changed (areas a.fixed.now a.marks.now a.log.now a.stored.now a.tables.now a.online.now a.pool.now) a.p.0 _ _ _ _ _ _ _ _ _ _ h.0 h.1 c.before.before.before.before.before.before.before.before.before.before.before.before.before.before.before.before.load-sizes.ensures c.before.before.before.before.before.before.before.before.before.before.before.before.before.before.count_of.ensures.0 c.before.before.before.before.before.before.before.before.before.before.before.before.load-order.ensures.0 c.before.before.before.before.before.before.before.before.before.fetch.ensures c.before.before.note-change.ensures
 
 pub change-page-spec : {M : Type 1} → statement M
 change-page-spec =

@@ -21,7 +21,7 @@ returns : tie.Need-returns
 returns c =
     let a = c.before.before.before.before.before.before.before.before.before.before.before.args in
     let h = c.before.before.before.before.before.before.before.before.before.before.before.requires in
-    fetched_there (areas a.fixed a.marks a.log a.stored a.tables a.online a.pool) a.p.0 _ h.0 h.1 (entry_in (areas a.fixed a.marks a.log a.stored a.tables a.online a.pool) a.p.0 _ _ _ _ c.before.before.before.load-sizes.ensures c.before.entry_of.ensures.0) c.if1.true
+    fetched_there (areas a.fixed.now a.marks.now a.log.now a.stored.now a.tables.now a.online.now a.pool.now) a.p.0 _ h.0 h.1 (entry_in (areas a.fixed.now a.marks.now a.log.now a.stored.now a.tables.now a.online.now a.pool.now) a.p.0 _ _ _ _ c.before.before.before.load-sizes.ensures c.before.entry_of.ensures.0) c.if1.true
 
 frame-for-requires : tie.Need-frame-for-requires
 frame-for-requires c κs = search rules
@@ -30,7 +30,7 @@ bring-in-requires : tie.Need-bring-in-requires
 bring-in-requires c κs =
     let a = c.before.before.before.before.before.before.before.before.before.before.before.before.before.before.args in
     let h = c.before.before.before.before.before.before.before.before.before.before.before.before.before.before.requires in
-    (h.0, h.1, frame_within (areas a.fixed a.marks a.log a.stored a.tables a.online a.pool) _ _ _ _ _ h.0 h.2 c.before.before.before.before.before.before.load-sizes.ensures c.before.before.frame-for.ensures.0)
+    (h.0, h.1, frame_within (areas a.fixed.now a.marks.now a.log.now a.stored.now a.tables.now a.online.now a.pool.now) _ _ _ _ _ h.0 h.2 c.before.before.before.before.before.before.load-sizes.ensures c.before.before.frame-for.ensures.0)
 
 same-length-2 : tie.Need-same-length-2
 same-length-2 c = search rules
@@ -42,10 +42,10 @@ returns-2 : tie.Need-returns-2
 returns-2 c =
     let a = c.before.before.before.before.before.before.before.before.before.before.before.before.before.before.before.before.before.before.before.args in
     let h = c.before.before.before.before.before.before.before.before.before.before.before.before.before.before.before.before.before.before.before.requires in
-    fetched_new (areas a.fixed a.marks a.log a.stored a.tables a.online a.pool) a.p.0 _ _ h.0
-    (entry_in (areas a.fixed a.marks a.log a.stored a.tables a.online a.pool) a.p.0 _ _ _ _ c.before.before.before.before.before.before.before.before.before.before.before.load-sizes.ensures c.before.before.before.before.before.before.before.before.before.entry_of.ensures.0)
+    fetched_new (areas a.fixed.now a.marks.now a.log.now a.stored.now a.tables.now a.online.now a.pool.now) a.p.0 _ _ h.0
+    (entry_in (areas a.fixed.now a.marks.now a.log.now a.stored.now a.tables.now a.online.now a.pool.now) a.p.0 _ _ _ _ c.before.before.before.before.before.before.before.before.before.before.before.load-sizes.ensures c.before.before.before.before.before.before.before.before.before.entry_of.ensures.0)
     c.before.before.before.before.before.before.before.before.if1.false
-    (frame_in (areas a.fixed a.marks a.log a.stored a.tables a.online a.pool) _ _ _ _ _ h.2 c.before.before.before.before.before.before.before.before.before.before.before.load-sizes.ensures c.before.before.before.before.before.before.before.frame-for.ensures.0)
+    (frame_in (areas a.fixed.now a.marks.now a.log.now a.stored.now a.tables.now a.online.now a.pool.now) _ _ _ _ _ h.2 c.before.before.before.before.before.before.before.before.before.before.before.load-sizes.ensures c.before.before.before.before.before.before.before.frame-for.ensures.0)
     c.before.before.before.before.bring-in.ensures
 
 pub fetch_spec : {M : Type 1} → statement M

@@ -20,7 +20,7 @@ copy-out-requires c κs =
     let h = c.before.before.before.before.before.before.before.before.before.before.before.before.before.before.before.before.before.before.before.requires in
     let z = c.before.before.before.before.before.before.before.before.before.before.load-sizes.ensures in
     let k : length c.before.before.before.before.before.before.before.use-page.new.1.1.1.1.1.1.0 ≡ length a.pool.now = search rules in
-    (used_fits (areas a.fixed a.marks a.log a.stored a.tables a.online a.pool) a.p.0 _ _ _ _ _ _ _ _ h.0 z c.before.before.before.before.before.before.before.use-page.ensures k, omega (arith, h.2, z.size), h.3)
+    (used_fits (areas a.fixed.now a.marks.now a.log.now a.stored.now a.tables.now a.online.now a.pool.now) a.p.0 _ _ _ _ _ _ _ _ h.0 z c.before.before.before.before.before.before.before.use-page.ensures k, omega (arith, h.2, z.size), h.3)
 
 same_length : tie.Need-same-length
 same_length c = search rules
@@ -34,7 +34,7 @@ same-length-3 c = search rules
 returns : tie.Need-returns
 returns c =
     let a = c.before.before.before.before.before.before.before.before.before.before.before.before.before.before.before.before.before.before.before.before.before.before.args in
-    read_done (areas a.fixed a.marks a.log a.stored a.tables a.online a.pool) a.p.0 a.offset a.w _ _ _ _ _ _ _ _ _ c.before.before.before.before.before.before.before.before.before.before.before.before.before.load-sizes.ensures c.before.before.before.before.before.before.before.before.before.before.use-page.ensures c.before.before.copy-out.ensures
+    read_done (areas a.fixed.now a.marks.now a.log.now a.stored.now a.tables.now a.online.now a.pool.now) a.p.0 a.offset a.w _ _ _ _ _ _ _ _ _ c.before.before.before.before.before.before.before.before.before.before.before.before.before.load-sizes.ensures c.before.before.before.before.before.before.before.before.before.before.use-page.ensures c.before.before.copy-out.ensures
 
 pub read_spec : {M : Type 1} → statement M
 read_spec =

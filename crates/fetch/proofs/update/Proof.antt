@@ -36,7 +36,7 @@ apply-in-requires c κs =
     let m = c.before.before.before.before.before.before.before.before.before.before.before.before.before.before.before.count_of.ensures.0 in
     let k : length c.before.before.before.before.before.before.before.before.before.before.before.change-page.new.1.1.1.1.1.1.0 ≡ length a.pool.now = search rules in
     let l : length c.before.before.before.before.append.new.0 ≡ length a.online.now = search rules in
-    (used_fits (areas a.fixed a.marks a.log a.stored a.tables a.online a.pool) a.p.0 _ _ _ _ _ _ _ _ h.0 c.before.before.before.before.before.before.before.before.before.before.before.before.before.before.before.before.before.load-sizes.ensures c.before.before.before.before.before.before.before.before.before.before.before.change-page.ensures k, omega (arith, h.0.sized.online, h.4))
+    (used_fits (areas a.fixed.now a.marks.now a.log.now a.stored.now a.tables.now a.online.now a.pool.now) a.p.0 _ _ _ _ _ _ _ _ h.0 c.before.before.before.before.before.before.before.before.before.before.before.before.before.before.before.before.before.load-sizes.ensures c.before.before.before.before.before.before.before.before.before.before.before.change-page.ensures k, omega (arith, h.0.sized.online, h.4))
 
 same_length : tie.Need-same-length
 same_length c = search rules
@@ -51,7 +51,7 @@ returns : tie.Need-returns
 returns c =
     let a = c.before.before.before.before.before.before.before.before.before.before.before.before.before.before.before.before.before.before.before.before.before.before.before.before.before.before.before.before.args in
     let h = c.before.before.before.before.before.before.before.before.before.before.before.before.before.before.before.before.before.before.before.before.before.before.before.before.before.before.before.before.requires in
-    updated_row (areas a.fixed a.marks a.log a.stored a.tables a.online a.pool) (row_of a.p.0 a.offset a.w a.kind a.v a.owner) a.p.0 _ _ _ _ _ _ _ _ _ _
+    updated_row (areas a.fixed.now a.marks.now a.log.now a.stored.now a.tables.now a.online.now a.pool.now) (row_of a.p.0 a.offset a.w a.kind a.v a.owner) a.p.0 _ _ _ _ _ _ _ _ _ _
     (row_page a.p.0 a.offset a.w a.kind a.v a.owner (omega (arith, h.1, h.0.sized.pages)))
     (length_row_of a.p.0 a.offset a.w a.kind a.v a.owner)
     h.0 h.4 h.5

@@ -35,7 +35,7 @@ same-length-2 c = search rules
 returns : tie.Need-returns
 returns c =
     let a = c.before.before.before.before.before.before.before.before.before.before.before.before.before.before.before.before.before.before.before.before.before.before.args in
-    used (areas a.fixed a.marks a.log a.stored a.tables a.online a.pool) a.p.0 _ _ _ _ _ _ _ _ _ c.before.before.before.before.before.before.before.before.before.before.before.before.before.before.load-sizes.ensures c.before.before.before.before.before.before.before.before.before.before.before.before.load-order.ensures.0 c.before.before.before.before.before.before.before.before.before.fetch.ensures c.before.before.make-latest.ensures
+    used (areas a.fixed.now a.marks.now a.log.now a.stored.now a.tables.now a.online.now a.pool.now) a.p.0 _ _ _ _ _ _ _ _ _ c.before.before.before.before.before.before.before.before.before.before.before.before.before.before.load-sizes.ensures c.before.before.before.before.before.before.before.before.before.before.before.before.load-order.ensures.0 c.before.before.before.before.before.before.before.before.before.fetch.ensures c.before.before.make-latest.ensures
 
 pub use-page-spec : {M : Type 1} → statement M
 use-page-spec =

@@ -11,7 +11,7 @@ use Rattle.restart.proofs.count_entering.Tie as tie
 count-all-requires : tie.Need-count-all-requires
 count-all-requires c κs =
     let a = c.before.before.before.before.before.before.before.args in
-    readable (areas a.fixed a.marks a.log a.stored a.tables a.online a.pool) c.before.before.before.before.before.before.before.requires
+    readable (areas a.fixed.now a.marks.now a.log.now a.stored.now a.tables.now a.online.now a.pool.now) c.before.before.before.before.before.before.before.requires
 
 returns : tie.Need-returns
 returns c =
@@ -19,7 +19,7 @@ returns c =
     c.count-all.ensures
     ∙ sym
     (ap (λ (l : List (List ℕ)). length l)
-    (entering_all_by (areas a.fixed a.marks a.log a.stored a.tables a.online a.pool)))
+    (entering_all_by (areas a.fixed.now a.marks.now a.log.now a.stored.now a.tables.now a.online.now a.pool.now)))
 
 pub count-entering-spec : {M : Type 1} → statement M
 count-entering-spec = tie.close (tie.spec count-all-requires returns)

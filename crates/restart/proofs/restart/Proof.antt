@@ -14,7 +14,7 @@ wipe-requires-2 c κs = search rules
 enter-all-requires : tie.Need-enter-all-requires
 enter-all-requires c κs =
     let a = c.before.before.before.before.before.before.before.before.before.before.before.before.before.before.before.before.before.args in
-    restart_asks (areas a.fixed a.marks a.log a.stored a.tables a.online a.pool) _ _ c.before.before.before.before.before.before.before.before.before.before.before.before.before.before.before.before.before.requires
+    restart_asks (areas a.fixed.now a.marks.now a.log.now a.stored.now a.tables.now a.online.now a.pool.now) _ _ c.before.before.before.before.before.before.before.before.before.before.before.before.before.before.before.before.before.requires
     c.before.before.before.before.before.before.before.before.wipe.ensures
     c.before.before.before.before.wipe2.ensures
 
@@ -27,7 +27,7 @@ same-length-2 c = search rules
 returns : tie.Need-returns
 returns c =
     let a = c.before.before.before.before.before.before.before.before.before.before.before.before.before.before.before.before.before.before.before.before.before.before.args in
-    restart_made (areas a.fixed a.marks a.log a.stored a.tables a.online a.pool) _ _ _ _ c.before.before.before.before.before.before.before.before.before.before.before.before.before.before.before.before.before.before.before.before.before.before.requires
+    restart_made (areas a.fixed.now a.marks.now a.log.now a.stored.now a.tables.now a.online.now a.pool.now) _ _ _ _ c.before.before.before.before.before.before.before.before.before.before.before.before.before.before.before.before.before.before.before.before.before.before.requires
     c.before.before.before.before.before.before.before.before.before.before.before.before.before.wipe.ensures
     c.before.before.before.before.before.before.before.before.before.wipe2.ensures
     c.before.before.before.before.enter-all.ensures.0

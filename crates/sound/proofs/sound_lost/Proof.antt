@@ -13,7 +13,7 @@ use Rattle.sound.proofs.sound_lost.Tie as tie
 abbrev lent : tie.Start → Lent
 lent s =
     let a = s.args in
-    areas a.fixed a.marks a.log a.stored a.tables a.online a.pool
+    areas a.fixed.now a.marks.now a.log.now a.stored.now a.tables.now a.online.now a.pool.now
 
 params-of-requires : tie.Need-params-of-requires
 params-of-requires c κs = let s = c.before.before.before.before.before.before.before in (durable_sized (lent s) s.requires).fixed

@@ -1,5 +1,5 @@
 // Abort a transaction.
-ghost use Rattle.rules.specs.Areas.{before, after};
+ghost use Rattle.rules.specs.Areas.{areas};
 ghost use Rattle.rules.specs.Calls.{abort_call};
 ghost use Rattle.ventarico.specs.Said.{Told};
 
@@ -16,8 +16,8 @@ pub extern "C" fn ventarico_abort(
     pool: &[u8],
     number: u32,
 ) -> Reply
-    ensures { Told (abort_call (before fixed marks log stored tables online pool) number) result
-        (after fixed marks log stored tables online pool) }
+    ensures { Told (abort_call (areas fixed.now marks.now log.now stored.now tables.old online.old pool.now) number) result
+        (areas fixed.now marks.now log.now stored.now tables.new online.new pool.now) }
 {
     let v = verdict::judge_abort(fixed, marks, log, stored, tables, online, pool, number);
     match v {

@@ -1,5 +1,5 @@
 // A whole checkpoint: compact for each page, then close.
-ghost use Rattle.rules.specs.Areas.{before, after};
+ghost use Rattle.rules.specs.Areas.{areas};
 ghost use Rattle.rules.specs.Calls.{checkpoint_call};
 ghost use Rattle.ventarico.specs.Said.{Told};
 
@@ -17,8 +17,8 @@ pub extern "C" fn ventarico_checkpoint(
     min_del: u32,
     max_age: u32,
 ) -> Reply
-    ensures { Told (checkpoint_call (before fixed marks log stored tables online pool) min_del max_age) result
-        (after fixed marks log stored tables online pool) }
+    ensures { Told (checkpoint_call (areas fixed.now marks.old log.old stored.old tables.old online.old pool.now) min_del max_age) result
+        (areas fixed.now marks.new log.new stored.new tables.new online.new pool.now) }
 {
     let v = verdict::judge_checkpoint(
         fixed, marks, log, stored, tables, online, pool, min_del, max_age,

@@ -1,5 +1,5 @@
 // Close a checkpoint.
-ghost use Rattle.rules.specs.Areas.{before, after};
+ghost use Rattle.rules.specs.Areas.{areas};
 ghost use Rattle.rules.specs.Calls.{close_call};
 ghost use Rattle.ventarico.specs.Said.{Told};
 
@@ -15,8 +15,8 @@ pub extern "C" fn ventarico_close(
     online: &[u8],
     pool: &[u8],
 ) -> Reply
-    ensures { Told (close_call (before fixed marks log stored tables online pool)) result
-        (after fixed marks log stored tables online pool) }
+    ensures { Told (close_call (areas fixed.now marks.old log.old stored.now tables.now online.now pool.now)) result
+        (areas fixed.now marks.new log.new stored.now tables.now online.now pool.now) }
 {
     let v = verdict::judge_close(fixed, marks, log, stored, tables, online, pool);
     match v {

@@ -1,5 +1,5 @@
 // Commit a transaction.
-ghost use Rattle.rules.specs.Areas.{before, after};
+ghost use Rattle.rules.specs.Areas.{areas};
 ghost use Rattle.rules.specs.Calls.{commit_call};
 ghost use Rattle.ventarico.specs.Said.{Told};
 
@@ -16,8 +16,8 @@ pub extern "C" fn ventarico_commit(
     pool: &[u8],
     number: u32,
 ) -> Reply
-    ensures { Told (commit_call (before fixed marks log stored tables online pool) number) result
-        (after fixed marks log stored tables online pool) }
+    ensures { Told (commit_call (areas fixed.now marks.old log.old stored.now tables.old online.old pool.now) number) result
+        (areas fixed.now marks.new log.new stored.now tables.new online.new pool.now) }
 {
     let v = verdict::judge_commit(fixed, marks, log, stored, tables, online, pool, number);
     match v {

@@ -1,5 +1,5 @@
 // Compact one page.
-ghost use Rattle.rules.specs.Areas.{before, after};
+ghost use Rattle.rules.specs.Areas.{areas};
 ghost use Rattle.rules.specs.Calls.{compact_call};
 ghost use Rattle.ventarico.specs.Said.{Told};
 
@@ -19,8 +19,8 @@ pub extern "C" fn ventarico_compact(
     min_del: u32,
     max_age: u32,
 ) -> Reply
-    ensures { Told (compact_call (before fixed marks log stored tables online pool) page min_del max_age) result
-        (after fixed marks log stored tables online pool) }
+    ensures { Told (compact_call (areas fixed.now marks.old log.now stored.old tables.old online.old pool.now) page min_del max_age) result
+        (areas fixed.now marks.new log.now stored.new tables.new online.new pool.now) }
 {
     let v = verdict::judge_compact(
         fixed, marks, log, stored, tables, online, pool, page, min_del, max_age,

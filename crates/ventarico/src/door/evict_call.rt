@@ -1,5 +1,5 @@
 // Evict a page from its frame.
-ghost use Rattle.rules.specs.Areas.{before, after};
+ghost use Rattle.rules.specs.Areas.{areas};
 ghost use Rattle.rules.specs.Calls.{evict_call};
 ghost use Rattle.ventarico.specs.Said.{Told};
 
@@ -17,8 +17,8 @@ pub extern "C" fn ventarico_evict(
     pool: &[u8],
     page: u32,
 ) -> Reply
-    ensures { Told (evict_call (before fixed marks log stored tables online pool) page) result
-        (after fixed marks log stored tables online pool) }
+    ensures { Told (evict_call (areas fixed.now marks.now log.now stored.now tables.old online.now pool.now) page) result
+        (areas fixed.now marks.now log.now stored.now tables.new online.now pool.now) }
 {
     let v = verdict::judge_evict(fixed, marks, log, stored, tables, online, pool, page);
     match v {

@@ -1,6 +1,6 @@
 // Format: a new store over the stored pages as they are.
 ghost use Rattle.rules.specs.Lent.{given};
-ghost use Rattle.rules.specs.Areas.{before, after};
+ghost use Rattle.rules.specs.Areas.{areas};
 ghost use Rattle.rules.specs.Calls.{format_call};
 ghost use Rattle.ventarico.specs.Said.{Told};
 
@@ -22,8 +22,8 @@ pub extern "C" fn ventarico_format(
     log_size: u32,
     last: u32,
 ) -> Reply
-    ensures { Told (format_call (before fixed marks log stored tables online pool) (given page_size pages frames online_size log_size) last) result
-        (after fixed marks log stored tables online pool) }
+    ensures { Told (format_call (areas fixed.old marks.old log.old stored.now tables.old online.old pool.now) (given page_size pages frames online_size log_size) last) result
+        (areas fixed.new marks.new log.new stored.now tables.new online.new pool.now) }
 {
     let g = Params {
         size: page_size as u64,

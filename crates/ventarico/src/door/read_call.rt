@@ -1,6 +1,6 @@
 // Read bytes of a page.
 ghost use Rattle.std.specs.Prelude.{◌≡◌};
-ghost use Rattle.rules.specs.Areas.{before, after};
+ghost use Rattle.rules.specs.Areas.{areas};
 ghost use Rattle.rules.specs.Calls.{read_call};
 ghost use Rattle.ventarico.specs.Said.{Told};
 
@@ -22,8 +22,8 @@ pub extern "C" fn ventarico_read(
     offset: u32,
     length: u32,
 ) -> Reply
-    ensures { (Told (read_call (before fixed marks log stored tables online pool) buffer.old number page offset length) result
-        (after fixed marks log stored tables online pool)) × (buffer.new ≡ (read_call (before fixed marks log stored tables online pool) buffer.old number page offset length).buffer) }
+    ensures { (Told (read_call (areas fixed.now marks.now log.now stored.now tables.old online.now pool.old) buffer.old number page offset length) result
+        (areas fixed.now marks.now log.now stored.now tables.new online.now pool.new)) × (buffer.new ≡ (read_call (areas fixed.now marks.now log.now stored.now tables.old online.now pool.old) buffer.old number page offset length).buffer) }
 {
     let room = buffer.len();
     let v = verdict::judge_read(

@@ -1,5 +1,5 @@
 // Restart after a power loss.
-ghost use Rattle.rules.specs.Areas.{before, after};
+ghost use Rattle.rules.specs.Areas.{areas};
 ghost use Rattle.rules.specs.Calls.{restart_call};
 ghost use Rattle.ventarico.specs.Said.{Told};
 
@@ -15,8 +15,8 @@ pub extern "C" fn ventarico_restart(
     online: &mut [u8],
     pool: &[u8],
 ) -> Reply
-    ensures { Told (restart_call (before fixed marks log stored tables online pool)) result
-        (after fixed marks log stored tables online pool) }
+    ensures { Told (restart_call (areas fixed.now marks.now log.now stored.now tables.old online.old pool.now)) result
+        (areas fixed.now marks.now log.now stored.now tables.new online.new pool.now) }
 {
     let v = verdict::judge_restart(fixed, marks, log, stored, tables, online, pool);
     match v {

@@ -1,5 +1,5 @@
 // Update bytes of a page.
-ghost use Rattle.rules.specs.Areas.{before, after};
+ghost use Rattle.rules.specs.Areas.{areas};
 ghost use Rattle.rules.specs.Calls.{update_call};
 ghost use Rattle.ventarico.specs.Said.{Told};
 
@@ -22,8 +22,8 @@ pub extern "C" fn ventarico_update(
     kind: u32,
     value: u64,
 ) -> Reply
-    ensures { Told (update_call (before fixed marks log stored tables online pool) number page offset length kind value) result
-        (after fixed marks log stored tables online pool) }
+    ensures { Told (update_call (areas fixed.now marks.now log.now stored.now tables.old online.old pool.old) number page offset length kind value) result
+        (areas fixed.now marks.now log.now stored.now tables.new online.new pool.new) }
 {
     let v = verdict::judge_update(
         fixed, marks, log, stored, tables, online, pool, number, page, offset, length, kind, value,

@@ -19,7 +19,7 @@ use Rattle.verdict.proofs.judge_begin.Tie as tie
 abbrev lent : tie.Else1 → Lent
 lent k =
     let a = k.before.before.before.before.before.before.before.before.before.args in
-    areas a.fixed a.marks a.log a.stored a.tables a.online a.pool
+    areas a.fixed.now a.marks.now a.log.now a.stored.now a.tables.now a.online.now a.pool.now
 
 -- past the check they are sound, and so have their shape
 past : (k : tie.Else1) → not (sound (lent k)) ≡ false

@@ -15,7 +15,7 @@ use Rattle.verdict.proofs.lengths.Tie as tie
 abbrev exact : tie.Start → Bool
 exact s =
     let a = s.args in
-    exact_lengths (areas a.fixed a.marks a.log a.stored a.tables a.online a.pool) a.g
+    exact_lengths (areas a.fixed.now a.marks.now a.log.now a.stored.now a.tables.now a.online.now a.pool.now) a.g
 
 returns : tie.Need-returns
 returns c = sym (ap (λ (b : Bool). b && exact c.before.before.before.before.before.before.before.before) (ne_eqb _ _ c.if1.true))

@@ -28,7 +28,7 @@ returns : tie.Need-returns
 unfolding aborted
 returns c =
     let a = c.before.before.before.before.before.before.before.before.before.before.before.before.before.before.before.before.before.args in
-    let s = areas a.fixed a.marks a.log a.stored a.tables a.online a.pool in
+    let s = areas a.fixed.now a.marks.now a.log.now a.stored.now a.tables.now a.online.now a.pool.now in
     let g = c.before.before.before.before.before.before.before.before.before.params_of.ensures in
     let m = c.before.before.before.before.before.before.before.load.ensures.0 in
     let did = c.before.before.before.before.take_back.ensures in

@@ -18,7 +18,7 @@ returns : tie.Need-returns
 unfolding begun
 returns c =
     let a = c.before.before.before.before.before.before.before.before.before.before.before.args in
-    let s = areas a.fixed a.marks a.log a.stored a.tables a.online a.pool in
+    let s = areas a.fixed.now a.marks.now a.log.now a.stored.now a.tables.now a.online.now a.pool.now in
     λ i. lost_now s (c.before.before.make-live.ensures i) s.lost.online s.lost.pool
 
 pub begin-spec : {M : Type 1} → statement M

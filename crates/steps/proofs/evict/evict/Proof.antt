@@ -23,7 +23,7 @@ returns : tie.Need-returns
 unfolding evicted
 returns c =
     let a = c.before.before.before.before.before.before.before.before.before.before.before.before.args in
-    let s = areas a.fixed a.marks a.log a.stored a.tables a.online a.pool in
+    let s = areas a.fixed.now a.marks.now a.log.now a.stored.now a.tables.now a.online.now a.pool.now in
     let tables = rw c.before.before.before.before.params_of.ensures.frames at c.before.before.vacate.ensures in
     λ i. lost_now s (tables i) s.lost.online s.lost.pool
 

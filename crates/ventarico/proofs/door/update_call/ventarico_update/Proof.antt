@@ -23,7 +23,7 @@ start j = j.before.before.before.before.before.before.before.before.before.befor
 abbrev lent : tie.After-judge-update → Lent
 lent j =
     let a = (start j).args in
-    areas a.fixed a.marks a.log a.stored a.tables a.online a.pool
+    areas a.fixed.now a.marks.now a.log.now a.stored.now a.tables.now a.online.now a.pool.now
 
 -- what the rules say there, and so the judge: a refusal, or go
 abbrev word : tie.After-judge-update → Verdict
