@@ -1,6 +1,7 @@
 // What stands where in the lent areas (docs/LAYOUT.md), read and written by name. Each promise is the number that the bytes hold,
 // or the bytes with that number in its place and no other changed.
 #![tactic(auto)]
+
 ghost use Rattle.std.specs.Prelude.{◌≡◌, length};
 ghost use Rattle.rules.specs.Lent.{fixed_length};
 ghost use Rattle.layout.specs.Read.{ParamsRead};

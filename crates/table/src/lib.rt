@@ -1,5 +1,6 @@
 // Tables of rows, worked on in place: the online table, of 19 bytes a row, and the log, of 14.
 #![tactic(auto)]
+
 mod bytes;
 pub mod page;
 
