@@ -1,5 +1,6 @@
 // Close: each page's dirty number is its smallest committed online number, K is L, and the log keeps what is from the smallest such number on.
 #![tactic(auto)]
+
 ghost use Rattle.std.specs.Prelude.{◌≡◌, cond, ◌+◌, ◌*◌, ◌-◌, ◌≤◌, ◌<◌, min, length, drop, replicate, eqb};
 ghost use Rattle.word.specs.Word.{num, put};
 ghost use Rattle.record.specs.Part.{with_part};

@@ -1,5 +1,6 @@
 // Commit: an owner's rows are appended to the log and numbered, L and n go up, and the transaction ends.
 #![tactic(auto)]
+
 ghost use Rattle.std.specs.Prelude.{◌≡◌, true, cond, ◌++◌, map, ◌+◌, ◌*◌, ◌≤◌, length, take, drop, set, eqb};
 ghost use Rattle.word.specs.Word.{put};
 ghost use Rattle.record.specs.Rows.{rows, joined, keep};

@@ -1,6 +1,7 @@
 // Whether the parameters, the lent lengths and the durable part of the tables are sound: what restart checks, and every call but format.
 // `sound_durable` takes any bytes. Each inner check asks for what the checks before it have shown.
 #![tactic(auto)]
+
 ghost use Rattle.std.specs.Prelude.{◌≡◌, ℕ, ◌+◌, ◌*◌, ◌^◌, ◌<◌, ◌≤◌, true, ◌&&◌, List, length, drop};
 ghost use Rattle.record.specs.Rows.{row_at, rows};
 ghost use Rattle.record.specs.Record.{log_width, is_length, well_formed};

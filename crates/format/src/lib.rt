@@ -1,5 +1,6 @@
 // A fresh store: every table written whole. Stored pages and frames stay as they are.
 #![tactic(auto)]
+
 ghost use Rattle.std.specs.Prelude.{◌≡◌, ◌+◌, ◌*◌, ◌≤◌, length, replicate};
 ghost use Rattle.word.specs.Word.{put};
 ghost use Rattle.rules.specs.Lent.{last_at, closed_at, fixed_length, marks_length, fixed_of};

@@ -1,6 +1,7 @@
 // Frames and page entries: a page is rebuilt in its frame, a frame is freed and taken.
 // The use order comes out of the tables and goes back into them as a value.
 #![tactic(auto)]
+
 ghost use Rattle.std.specs.Prelude.{◌≡◌, cond, map, ◌+◌, ◌*◌, ◌≤◌, ◌<◌, length};
 ghost use Rattle.order.specs.Meant.{list_of};
 ghost use Rattle.record.specs.Part.{part};

@@ -1,6 +1,7 @@
 // Each call is judged before anything changes: the refusals of document 01 that follow soundness, in their order.
 // Nothing is written here, and each function is lent only what its refusals look at.
 #![tactic(auto)]
+
 ghost use Rattle.std.specs.Prelude.{◌≡◌, ◌+◌, ◌*◌, ◌^◌, ◌≤◌, ◌<◌, true, ◌&&◌, length, leb, ltb};
 ghost use Rattle.record.specs.Rows.{row_at, rows};
 ghost use Rattle.record.specs.Record.{online_width, is_length};

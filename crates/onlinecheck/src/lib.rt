@@ -1,6 +1,7 @@
 // The check of the online table: the clauses of soundness that are about its rows, in their order.
 // A clause runs once those before it hold, and may lean on them.
 #![tactic(auto)]
+
 ghost use Rattle.std.specs.Prelude.{◌≡◌, true, ◌&&◌, ◌+◌, ◌*◌, ◌-◌, ◌≤◌, ◌<◌, length, drop};
 ghost use Rattle.record.specs.Part.{part};
 ghost use Rattle.record.specs.Rows.{rows};

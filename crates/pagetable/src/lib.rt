@@ -1,5 +1,6 @@
 // The check of the `tables` area: counts, live set, page entries, use order. One pass over each part.
 #![tactic(auto)]
+
 ghost use Rattle.std.specs.Prelude.{◌≡◌, true, false, ◌&&◌, ℕ, ◌+◌, ◌-◌, ◌/◌, ◌≤◌, ◌<◌, length, get_or, eqb, leb, ltb};
 ghost use Rattle.record.specs.Part.{part};
 ghost use Rattle.rules.specs.Sound.{every, up_to, zeros, serving, times};

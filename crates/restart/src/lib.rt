@@ -1,5 +1,6 @@
 // Restart: the lost part made anew from the log. Of the durable part nothing changes, and no frame byte.
 #![tactic(auto)]
+
 ghost use Rattle.std.specs.Prelude.{◌≡◌, true, cond, ◌++◌, ◌+◌, ◌*◌, ◌-◌, ◌^◌, ◌≤◌, ◌<◌, length, drop, set};
 ghost use Rattle.word.specs.Word.{put};
 ghost use Rattle.record.specs.Part.{with_part};

@@ -1,6 +1,7 @@
 // SQLite's write-ahead log: its fields, its running sums, its header and its frames (docs/WAL.md). It knows no store.
 // Both byte orders of the words that are summed go by one definition. The caller shows that a place is within the slice.
 #![tactic(auto)]
+
 ghost use Rattle.std.specs.Prelude.{◌≡◌, ◌+◌, ◌*◌, ◌≤◌, length};
 ghost use Rattle.wal.specs.Sum.{field, word_at, paired, summed};
 

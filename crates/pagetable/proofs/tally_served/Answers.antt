@@ -1,0 +1,31 @@
+use Prim.Native.Nat.{◌-◌}
+use native.Mathlib.Omega.{arith}
+use mathlib.Core.Bool.{true}
+use mathlib.Core.Logic.{⊎_elim}
+use Rattle.pagetable.proofs.Loops.{tally_none, tally_turn, tally_pass, tally_room, tally_done}
+use borrow.Author.Rules.{rules}
+use Rattle.pagetable.proofs.tally_served.Goals as goal
+
+pub loop-i-init : goal.loop-i-init
+loop-i-init c = (search rules, tally_none true 1 _)
+
+pub bounds-a-k : goal.bounds-a-k
+bounds-a-k c = omega (arith, c.loop-i.invariant.1.size)
+
+pub overflow_add-a : goal.overflow_add-a
+overflow_add-a c = omega (arith, tally_room true 1 _ _ c.loop-i.a c.wide-k.result (omega arith) c.wide-k.ensures.1 c.loop-i.invariant.1)
+
+pub bounds-a-k-then-k-ne0 : goal.bounds-a-k-then-k-ne0
+bounds-a-k-then-k-ne0 c = omega (arith, c.loop-i.invariant.1.size)
+
+pub loop-i-preserved : goal.loop-i-preserved
+loop-i-preserved c = (
+  search rules,
+  ⊎_elim
+      (λ w. rw w.1 (tally_turn true 1 _ _ _ _ c.loop-i-test.true c.wide-k.ensures.0 c.wide-k.ensures.1 c.loop-i.invariant.1))
+      (λ w. rw w.1 (tally_pass true 1 _ _ _ c.wide-k.result c.loop-i-test.true c.wide-k.ensures.0 (omega arith) c.loop-i.invariant.1))
+      c.if-k-ne0.branch,
+)
+
+pub returns : goal.returns
+returns c = tally_done true 1 _ _ _ c.loop-i-test.false c.loop-i.invariant.1
