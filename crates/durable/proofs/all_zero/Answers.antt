@@ -2,6 +2,7 @@ use Rattle.std.proofs.Common.{◌-◌, refl, ⊎_elim, rules}
 use Rattle.rules.specs.Sound.{zeros}
 use Rattle.durable.proofs.Laws.{most_new, most_kept, zeros_turn, zeros_done}
 use Rattle.durable.proofs.all_zero.Goals as goal
+use Rattle.durable.proofs.all_zero.Goals.{then-most-b, else-most-b}
 
 pub loop-i-init : goal.loop-i-init
 loop-i-init c = (search rules, refl)
@@ -11,7 +12,7 @@ loop-i-preserved c =
     let l = c.loop-i in (
       search rules,
       zeros_turn c.args.s.now l.i l.most c.if-most-b.most _ c.loop-i-test.true
-          (⊎_elim (λ w. most_new _ _ _ w.1 w.0.taken) (λ w. most_kept _ _ _ w.1 w.0.left) c.if-most-b.branch) l.invariant.1,
+          (elim c.if-most-b.branch [ then-most-b w ↦ most_new _ _ _ w.most-is w.if-most-b.true | else-most-b w ↦ most_kept _ _ _ w.most-is w.if-most-b.false ]) l.invariant.1,
     )
 
 pub returns : goal.returns

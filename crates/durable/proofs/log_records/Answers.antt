@@ -20,12 +20,12 @@ well_formed-requires c = (search rules, search rules, c.places_of-places.ensures
 pub returns-then-not-well_formed : goal.returns-then-not-well_formed
 returns-then-not-well_formed c =
     let a = c.args in
-    every_fail (well_formed a.size a.pages) 14 a.n a.log.now c.loop-i.i _ _ c.loop-i-test.true (ap not c.if-not-well_formed.true) c.well-formed-2.ensures c.loop-i.invariant.1
+    every_fail (well_formed a.size a.pages) 14 a.n a.log.now c.loop-i.i _ _ c.loop-i-test.true (ap not c.if-not-well_formed.true) c.well_formed-in-loop-i.ensures c.loop-i.invariant.1
 
 pub loop-i-preserved : goal.loop-i-preserved
 loop-i-preserved c =
     let a = c.args in
-    (search rules, every_turn (well_formed a.size a.pages) 14 a.n a.log.now c.loop-i.i _ _ c.loop-i-test.true (ap not c.if-not-well_formed.false) c.well-formed-2.ensures c.loop-i.invariant.1)
+    (search rules, every_turn (well_formed a.size a.pages) 14 a.n a.log.now c.loop-i.i _ _ c.loop-i-test.true (ap not c.if-not-well_formed.false) c.well_formed-in-loop-i.ensures c.loop-i.invariant.1)
 
 pub returns : goal.returns
 returns c =

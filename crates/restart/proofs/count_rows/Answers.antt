@@ -4,6 +4,7 @@ use mathlib.Core.Logic.{⊎_elim}
 use borrow.Author.Rules.{rules}
 use Rattle.restart.proofs.Laws.{count_start, count_more, count_same, count_done}
 use Rattle.restart.proofs.count_rows.Goals as goal
+use Rattle.restart.proofs.count_rows.Goals.{then-enters_row, else-enters_row}
 
 pub loop-i-init : goal.loop-i-init
 loop-i-init c = let a = c.args in (search rules, search rules, count_start a.marks.now a.pages a.first a.n a.log.now)
@@ -19,10 +20,10 @@ loop-i-preserved c =
     let l = c.loop-i in
     let h = c.loop-i-test.true in
     let e = c.enters_row.ensures in
-    ⊎_elim
-    (λ w. (omega arith, omega arith, count_more a.marks.now a.pages a.first a.n a.log.now l.i l.m _ _ _ h e w.0.taken w.1 l.invariant.2))
-    (λ w. (omega arith, omega arith, count_same a.marks.now a.pages a.first a.n a.log.now l.i l.m _ _ _ h e w.0.left w.1 l.invariant.2))
-    c.if-enters_row.branch
+    elim c.if-enters_row.branch [
+      | then-enters_row w ↦ (omega arith, omega arith, count_more a.marks.now a.pages a.first a.n a.log.now l.i l.m _ _ _ h e w.if-enters_row.true w.m-is l.invariant.2)
+      | else-enters_row w ↦ (omega arith, omega arith, count_same a.marks.now a.pages a.first a.n a.log.now l.i l.m _ _ _ h e w.if-enters_row.false w.m-is l.invariant.2)
+    ]
 
 pub returns : goal.returns
 returns c =
