@@ -1,6 +1,7 @@
 // SQLite's write-ahead logs judged, from C: how many frames are valid, where the last commit frame ends, where a page's last
 // image begins. Any bytes of any length are taken. One pass, with a few numbers kept; no room that grows with the log.
 #![tactic(auto)]
+
 ghost use Rattle.std.specs.Prelude.{◌≡◌, cond, ◌+◌, ◌≤◌, ◌<◌, ◌^◌, length};
 ghost use Rattle.wal.specs.Layout.{opened, valid_frames};
 ghost use Rattle.waljudge.specs.Pass.{started, taken, passed};
