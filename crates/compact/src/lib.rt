@@ -1,6 +1,7 @@
 // Compact: a page's committed records are folded into the stored page and leave the online table.
 // What is to be done is decided on areas that are lent for reading; then it is done.
 #![tactic(auto)]
+
 ghost use Rattle.std.specs.Prelude.{◌≡◌, false, cond, not, ◌&&◌, ◌||◌, List, ℕ, ◌+◌, ◌*◌, ◌-◌, ◌/◌, ◌≤◌, ◌<◌, length, get_or, set, eqb, leb};
 ghost use Rattle.record.specs.Part.{part};
 ghost use Rattle.record.specs.Rows.{rows, keep, table};

@@ -1,6 +1,7 @@
 // Fetch, read and update: a page comes into a frame, is read there, is changed there.
 // Fetch, read and update are lent all seven areas, so that their contracts speak of the whole of them.
 #![tactic(auto)]
+
 ghost use Rattle.std.specs.Prelude.{◌≡◌, true, cond, ◌++◌, ◌+◌, ◌*◌, ◌≤◌, ◌<◌, length, get_or, drop, set};
 ghost use Rattle.record.specs.Part.{part};
 ghost use Rattle.record.specs.Rows.{row_at, rows, keep};

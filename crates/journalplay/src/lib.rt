@@ -1,6 +1,7 @@
 // A rollback journal played back over lent pages: all records are looked at first, and only then is a page written.
 // The door asks nothing of its caller.
 #![tactic(auto)]
+
 mod look;
 mod restore;
 

@@ -1,6 +1,7 @@
 // The check that every call but format and restart makes first: are the lent tables sound?
 // It reads everything and asks nothing of its caller.
 #![tactic(auto)]
+
 ghost use Rattle.std.specs.Prelude.{◌≡◌, true, ◌&&◌, ◌+◌, ◌*◌, ◌≤◌, ◌<◌, length};
 ghost use Rattle.pagetable.specs.Test.{tables_test};
 ghost use Rattle.onlinecheck.specs.Online.{online_test};

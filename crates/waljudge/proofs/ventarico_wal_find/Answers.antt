@@ -7,13 +7,13 @@ pub returns-then-page-eq0 : goal.returns-then-page-eq0
 returns-then-page-eq0 c = find_zero _ _ _ c.if-page-eq0.true (ap (λ (x : Reply). x.code) c.answered-no.ensures)
 
 pub found_by-requires : goal.found_by-requires
-found_by-requires c = sym c.«open».ensures ∙ c.h-1.given.1
+found_by-requires c = sym c.«open».ensures ∙ c.in-Good.is
 
 pub returns-in-Good : goal.returns-in-Good
-returns-in-Good c = find_by _ _ _ _ _ c.if-page-eq0.false c.«open».ensures c.h-1.given.1 c.found_by.ensures
+returns-in-Good c = find_by _ _ _ _ _ c.if-page-eq0.false c.«open».ensures c.in-Good.is c.found_by.ensures
 
 pub returns-in-BadHeader : goal.returns-in-BadHeader
-returns-in-BadHeader c = find_by _ _ _ _ _ c.if-page-eq0.false c.«open».ensures c.enum_told-1.given.1 refl
+returns-in-BadHeader c = find_by _ _ _ _ _ c.if-page-eq0.false c.«open».ensures c.in-BadHeader.is refl
 
 pub returns-in-BadSum : goal.returns-in-BadSum
-returns-in-BadSum c = find_by _ _ _ _ _ c.if-page-eq0.false c.«open».ensures c.enum_told-in-BadSum-1.given.1 refl
+returns-in-BadSum c = find_by _ _ _ _ _ c.if-page-eq0.false c.«open».ensures c.in-BadSum.is refl

@@ -5,7 +5,8 @@ use mathlib.Core.Path.{◌≡◌}
 use mathlib.Core.Bool.{true}
 use mathlib.Core.List.{List}
 use borrow.Author.Tests.{ltb-true}
-use Rattle.record.specs.Rows.{row_at, rows, every}
+use Rattle.record.specs.Rows.{row_at, rows}
+use Rattle.rules.specs.Sound.{every}
 use Rattle.record.specs.Record.{page_of}
 use Rattle.rules.specs.Shape.{page_below}
 use Rattle.onlinecheck.proofs.Rows.{every_at}

@@ -1,0 +1,30 @@
+-- `compact::compact_step` meets its contract: nothing where compact is not due, else what compact does.
+use Rattle.rules.specs.Areas.{areas}
+use Rattle.compact.proofs.Laws.{due_read, surveyed_all, step_not, step_is}
+use Rattle.std.proofs.Common.{ap}
+use mathlib.Core.Bool.{not}
+use Rattle.compact.proofs.compact_step.Goals as goal
+
+pub returns-then-not-due_by : goal.returns-then-not-due_by
+returns-then-not-due_by c =
+    let a = c.args in
+    let v = c.survey-s.ensures in
+    step_not a.min-del a.max-age a.p.0 (areas a.fixed.now a.marks.now a.log.now a.stored.now a.tables.now a.online.now a.pool.now) _
+    (due_read a.fixed.now a.marks.now a.log.now a.stored.now a.tables.now a.online.now a.pool.now a.p.0 a.min-del a.max-age _ _ _ _ _ _
+    c.load-m.ensures.0 v.committed v.least c.load-last.ensures.0 c.age.ensures c.due_by.ensures)
+    (ap not c.if-not-due_by.true)
+
+pub compact_by-requires : goal.compact_by-requires
+compact_by-requires c =
+    let a = c.args in
+    let v = c.survey-s in
+    (c.requires.0, c.requires.1, surveyed_all a.p.0 _ (areas a.fixed.now a.marks.now a.log.now a.stored.now a.tables.now a.online.now a.pool.now) v.result c.load-m.ensures.0 v.ensures)
+
+pub returns : goal.returns
+returns c =
+    let a = c.args in
+    let v = c.survey-s.ensures in
+    step_is a.min-del a.max-age a.p.0 _ _ (areas a.fixed.now a.marks.now a.log.now a.stored.now a.tables.now a.online.now a.pool.now) _ _
+    (due_read a.fixed.now a.marks.now a.log.now a.stored.now a.tables.now a.online.now a.pool.now a.p.0 a.min-del a.max-age _ _ _ _ _ _
+    c.load-m.ensures.0 v.committed v.least c.load-last.ensures.0 c.age.ensures c.due_by.ensures)
+    (ap not c.if-not-due_by.false) c.compact_by.ensures
