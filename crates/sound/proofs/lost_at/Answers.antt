@@ -6,6 +6,8 @@ use Rattle.pagetable.proofs.Laws.{count_within}
 use Rattle.sound.proofs.Laws.{and_refused, and_kept}
 use Rattle.std.proofs.Common.{ap}
 use mathlib.Core.Bool.{not}
+use Rattle.std.proofs.Common.{sym}
+use Rattle.std.proofs.Common.{◌∙◌}
 use Rattle.sound.proofs.lost_at.Goals as goal
 
 pub sound_tables-requires : goal.sound_tables-requires
@@ -33,10 +35,10 @@ sound_online-requires c =
       c.load-n.ensures.0,
       c.load-last.ensures.0,
       c.load-last.ensures.1,
-      count_within a.tables.now a.g.pages a.g.frames a.g.online (tables_sound c),
+      count_within a.tables.now a.g.pages a.g.frames a.g.online ((sym c.sound_tables.ensures ∙ c.if-not-sound_tables.false)),
     )
 
 pub returns : goal.returns
 returns c =
-    and_kept _ _ _ (tables_sound c)
+    and_kept _ _ _ ((sym c.sound_tables.ensures ∙ c.if-not-sound_tables.false))
     (rw (c.load-m.ensures.0, c.load-n.ensures.0, c.load-last.ensures.0) at c.sound_online.ensures)
