@@ -1,6 +1,7 @@
 // Checkpoint: compact for each page, ascending, then close.
 // One walk marks the pages that have a committed online record; the others are passed over, since compact is not due for them.
 #![tactic(auto)]
+
 ghost use Rattle.std.specs.Prelude.{◌≡◌, cond, ◌+◌, ◌*◌, ◌≤◌, ◌<◌, length, set};
 ghost use Rattle.record.specs.Rows.{row_at, rows, keep};
 ghost use Rattle.record.specs.Record.{online_width, page_of, committed};

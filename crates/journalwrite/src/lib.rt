@@ -1,6 +1,7 @@
 // A rollback journal written for a list of pages: judged first, then header and records to the front of the target.
 // The door asks nothing of its caller.
 #![tactic(auto)]
+
 mod fill;
 mod list;
 

@@ -1,6 +1,7 @@
 // Each call judged whole: soundness first, then the call's own refusals in their order. Everything is lent to be read.
 // These ask nothing of their caller; `Go` is what a door waits for.
 #![tactic(auto)]
+
 ghost use Rattle.std.specs.Prelude.{◌≡◌, true, ◌&&◌, ◌≤◌, length, get_or, eqb};
 ghost use Rattle.rules.specs.Sound.{in_range, exact_lengths};
 ghost use Rattle.rules.specs.Lent.{fixed_length, entry_at};

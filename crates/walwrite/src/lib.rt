@@ -1,6 +1,7 @@
 // Committed pages of a store written as SQLite's write-ahead log, from C: one frame for each page listed, built in its place
 // in the lent target. The store is only read: no frame bytes, no page-sized copy. A refusal leaves the target as it was.
 #![tactic(auto)]
+
 ghost use Rattle.std.specs.Prelude.{◌≡◌, true, cond, ◌++◌, ◌+◌, ◌*◌, ◌-◌, ◌≤◌, ◌<◌, length, take, drop};
 ghost use Rattle.record.specs.Rows.{rows, keep};
 ghost use Rattle.record.specs.Record.{committed_on, applied};

@@ -28,11 +28,11 @@ returns c =
     let a = c.args in
     let m = c.measure-z in
     let k = c.plan_for-plan in
-    let q = planned_seen a.fixed.now a.tables.now a.online.now a.p.0 _ m.result a.s k.result m.ensures c.requires.2 k.ensures in (
-      reads_done a.fixed.now a.marks.now a.log.now a.stored.now a.tables.now a.online.now a.pool.now a.p.0 m.result k.result m.ensures q,
-      (
-        writes_done (areas a.fixed.now a.marks.now a.log.now a.stored.now a.tables.now a.online.now a.pool.now) a.p.0,
-        lent_done a.fixed.now a.marks.now a.log.now a.stored.now a.tables.now a.online.now a.pool.now a.p.0 m.result k.result m.ensures q a.s c.requires.2 _ _ _ _
-            c.write_page.ensures c.compact_lost.ensures.0 c.compact_lost.ensures.1 c.store.ensures,
-      ),
-    )
+    let q = planned_seen a.fixed.now a.tables.now a.online.now a.p.0 _ m.result a.s k.result m.ensures c.requires.2 k.ensures in
+    record {
+      reads = reads_done a.fixed.now a.marks.now a.log.now a.stored.now a.tables.now a.online.now a.pool.now a.p.0 m.result k.result m.ensures q;
+      writes = writes_done (areas a.fixed.now a.marks.now a.log.now a.stored.now a.tables.now a.online.now a.pool.now) a.p.0;
+      lent =
+          lent_done a.fixed.now a.marks.now a.log.now a.stored.now a.tables.now a.online.now a.pool.now a.p.0 m.result k.result m.ensures q a.s c.requires.2 _ _ _ _
+          c.write_page.ensures c.compact_lost.ensures.0 c.compact_lost.ensures.1 c.store.ensures;
+    }

@@ -9,10 +9,12 @@ pub returns-then-not-due_by : goal.returns-then-not-due_by
 returns-then-not-due_by c =
     let a = c.args in
     let v = c.survey-s.ensures in
-    step_not a.min-del a.max-age a.p.0 (areas a.fixed.now a.marks.now a.log.now a.stored.now a.tables.now a.online.now a.pool.now) _
-    (due_read a.fixed.now a.marks.now a.log.now a.stored.now a.tables.now a.online.now a.pool.now a.p.0 a.min-del a.max-age _ _ _ _ _ _
+    let e =
+    step_not a.min_del a.max_age a.p.0 (areas a.fixed.now a.marks.now a.log.now a.stored.now a.tables.now a.online.now a.pool.now) _
+    (due_read a.fixed.now a.marks.now a.log.now a.stored.now a.tables.now a.online.now a.pool.now a.p.0 a.min_del a.max_age _ _ _ _ _ _
     c.load-m.ensures.0 v.committed v.least c.load-last.ensures.0 c.age.ensures c.due_by.ensures)
-    (ap not c.if-not-due_by.true)
+    (ap not c.if-not-due_by.true) in
+    record { reads = e.0; writes = e.1.0; lent = e.1.1 }
 
 pub compact_by-requires : goal.compact_by-requires
 compact_by-requires c =
@@ -24,7 +26,10 @@ pub returns : goal.returns
 returns c =
     let a = c.args in
     let v = c.survey-s.ensures in
-    step_is a.min-del a.max-age a.p.0 _ _ (areas a.fixed.now a.marks.now a.log.now a.stored.now a.tables.now a.online.now a.pool.now) _ _
-    (due_read a.fixed.now a.marks.now a.log.now a.stored.now a.tables.now a.online.now a.pool.now a.p.0 a.min-del a.max-age _ _ _ _ _ _
+    let k = c.compact_by in
+    let e =
+    step_is a.min_del a.max_age a.p.0 _ _ (areas a.fixed.now a.marks.now a.log.now a.stored.now a.tables.now a.online.now a.pool.now) _ _
+    (due_read a.fixed.now a.marks.now a.log.now a.stored.now a.tables.now a.online.now a.pool.now a.p.0 a.min_del a.max_age _ _ _ _ _ _
     c.load-m.ensures.0 v.committed v.least c.load-last.ensures.0 c.age.ensures c.due_by.ensures)
-    (ap not c.if-not-due_by.false) c.compact_by.ensures
+    (ap not c.if-not-due_by.false) (k.ensures.reads, (k.ensures.writes, k.ensures.lent)) in
+    record { reads = e.0; writes = e.1.0; lent = e.1.1 }

@@ -25,7 +25,7 @@ lent j =
 
 -- what the rules say there, and so the judge: a refusal, or go
 abbrev word : tie.After-judge-checkpoint → Verdict
-word j = let a = (start j).args in judge_checkpoint (lent j) a.min-del a.max-age
+word j = let a = (start j).args in judge_checkpoint (lent j) a.min_del a.max_age
 
 refused : (k : tie.After-v) → word k.before.before ≡ Refuse k.v.given.0.0
 refused k = sym k.before.before.judge-checkpoint.ensures ∙ k.v.given.1
@@ -50,7 +50,7 @@ checkpoint-requires : tie.Need-checkpoint-requires
 checkpoint-requires c κs =
     let k = c.before.before.before.before.before in
     let j = k.before.before in
-    let w = checkpoint_went (lent j) (start j).args.min-del (start j).args.max-age (went k) in
+    let w = checkpoint_went (lent j) (start j).args.min_del (start j).args.max_age (went k) in
     (sound_shaped (lent j) w, sound_logged (lent j) w)
 
 done-requires : tie.Need-done-requires
@@ -97,8 +97,8 @@ unfolding checkpoint_call
 returns-2 c =
     let did = c.before.before.before.before.before.before.before.before.before.before.before.checkpoint.ensures in
     let j = c.before.before.before.before.before.before.before.before.before.before.before.before.before.before.before.before.before.before.before in
-    let d = checkpointed (start j).args.min-del (start j).args.max-age (lent j) in
-    let one = checkpoint_logs (start j).args.min-del (start j).args.max-age (lent j) in
+    let d = checkpointed (start j).args.min_del (start j).args.max_age (lent j) in
+    let one = checkpoint_logs (start j).args.min_del (start j).args.max_age (lent j) in
     rw (went c.before.before.before.before.before.before.before.before.before.before.before.before.before.before.before.before.before)
     (record { reply = (rw (did.0, did.1.0) at c.done.ensures) ∙ (λ i. record { code = 0; note = 0; reads = d.reads; writes = d.writes; logs = sym one i }); lent = did.1.1 })
 

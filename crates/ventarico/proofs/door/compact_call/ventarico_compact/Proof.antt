@@ -25,7 +25,7 @@ lent j =
 
 -- what the rules say there, and so the judge: a refusal, or go
 abbrev word : tie.After-judge-compact → Verdict
-word j = let a = (start j).args in judge_compact (lent j) a.page a.min-del a.max-age
+word j = let a = (start j).args in judge_compact (lent j) a.page a.min_del a.max_age
 
 refused : (k : tie.After-v) → word k.before.before ≡ Refuse k.v.given.0.0
 refused k = sym k.before.before.judge-compact.ensures ∙ k.v.given.1
@@ -51,7 +51,7 @@ compact-step-requires c κs =
     let k = c.before.before.before.before in
     let j = k.before.before in
     let a = (start j).args in
-    let w = compact_went (lent j) a.page a.min-del a.max-age (went k) in
+    let w = compact_went (lent j) a.page a.min_del a.max_age (went k) in
     (sound_shaped (lent j) w.0, w.1)
 
 not-due-requires : tie.Need-not-due-requires
@@ -77,7 +77,7 @@ returns c =
     let j = k.before.before in
     let a = (start j).args in
     let did = c.before.before.before.before.before.before.before.before.before.before.before.compact-step.ensures in
-    let undue = was_not_due (lent j) a.page a.min-del a.max-age _ did.1.0 c.before.if1.true in
+    let undue = was_not_due (lent j) a.page a.min_del a.max_age _ did.1.0 c.before.if1.true in
     rw (went k, undue) (record { reply = c.not_due.ensures; lent = rw undue at did.1.1 })
 
 done-requires : tie.Need-done-requires
@@ -120,7 +120,7 @@ returns-3 c =
     let j = k.before.before in
     let a = (start j).args in
     let did = c.before.before.before.before.before.before.before.before.before.before.before.compact-step.ensures in
-    let is-due = was_due (lent j) a.page a.min-del a.max-age _ did.1.0 c.before.if1.false in
+    let is-due = was_due (lent j) a.page a.min_del a.max_age _ did.1.0 c.before.if1.false in
     let compacting = rw is-due at did in
     rw (went k, is-due)
     (record { reply = rw (compacting.0, compacting.1.0) at c.done.ensures; lent = compacting.1.1 })
