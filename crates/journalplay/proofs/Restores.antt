@@ -13,7 +13,7 @@ use Rattle.record.specs.Part.{part, with_part}
 use Rattle.record.proofs.Parts.{length_with}
 use Rattle.journal.specs.Layout.{big, saved_of, records}
 use Rattle.journal.specs.Playing.{is_outside, outside, with_saved, restored}
-use Rattle.journal.proofs.Laws.{big_at, copied}
+use Rattle.journal.proofs.Laws.{big_at}
 use Rattle.journal.proofs.Writes.{neither}
 use Rattle.journalplay.proofs.Looks.{lent_image, image_length}
 
@@ -49,20 +49,13 @@ module _ (n at size : ℕ) (body pages : List ℕ) (e : n ≡ big body at) (some
       (h, omega arith)
 
   pub written_one : (ys : List ℕ) → at + (size + 8) ≤ length body
-      → ys ≡ take (length (take (at + 4 + size - (at + 4)) (drop (at + 4) body))) (take (at + 4 + size - (at + 4)) (drop (at + 4) body))
-      ++ drop (length (take (at + 4 + size - (at + 4)) (drop (at + 4) body))) (take ((n - 1) * size + size - (n - 1) * size) (drop ((n - 1) * size) pages))
+      → ys ≡ take (at + 4 + size - (at + 4)) (drop (at + 4) body)
       → with_part ((n - 1) * size) ((n - 1) * size + size - (n - 1) * size) pages ys ≡ with_saved size (saved_of size (drop at body)) pages
   unfolding with_saved
   written_one ys whole q =
-      let s : List ℕ = take (at + 4 + size - (at + 4)) (drop (at + 4) body) in
       let to : ℕ = (n - 1) * size in
-      let k : to + size ≤ length pages = spot.1 in
       let d : to + size - to ≡ size = omega arith in
-      let g : length (drop to pages) ≡ length pages - to = length-drop to pages in
-      let ld : length (take (to + size - to) (drop to pages)) ≡ size = rw d (length-take-le size (drop to pages) (omega arith)) in
-      let es : s ≡ part 4 size (drop at body) = lent_image at size body in
-      let ls : length s ≡ size = ap length es ∙ image_length at size body whole in
-      let r : ys ≡ part 4 size (drop at body) = copied s (take (to + size - to) (drop to pages)) ys (ld ∙ sym ls) q ∙ es in
+      let r : ys ≡ part 4 size (drop at body) = q ∙ lent_image at size body in
       ap (λ (m : ℕ). with_part to m pages ys) d ∙ ap (λ (x : List ℕ). with_part to size pages x) r
       ∙ ap (λ (m : ℕ). with_part ((m - 1) * size) size pages (part 4 size (drop at body))) (sym named)
 

@@ -7,7 +7,6 @@ use lib.ListN.{length, take, drop, replicate, length-append, length-drop}
 use lib.Seq.{take_at, drop_at, drop-drop, length-take-le}
 use Rattle.record.specs.Part.{with_part}
 use Rattle.record.proofs.Parts.{with_take, with_drop}
-use Rattle.journal.proofs.Laws.{copied}
 use Rattle.journal.proofs.Writes.{length_bytes}
 use Rattle.journal.specs.Layout.{first_bytes, bytes_of, header_bytes, record_bytes, checksum}
 
@@ -17,19 +16,15 @@ behind x t t₁ t₂ ys a k h e f =
     f ∙ rw (e, take_at x (drop a t) a h, drop_at x (drop a t) a h, drop-drop k a t) (sym (append_assoc x ys (drop (a + k) t)))
 
 -- `put_first`: the first bytes over eight others
-pub firsts_fit : (s t : List ℕ) → 8 ≤ length t → s ≡ first_bytes → length s ≤ length (take 8 t)
+pub firsts_fit : (s t : List ℕ) → 8 ≤ length t → s ≡ first_bytes → length (take 8 t) ≡ length s
 unfolding first_bytes
 firsts_fit s t h e =
     let n : length s ≡ 8 = ap length e in
     let m : length (take 8 t) ≡ 8 = length-take-le 8 t h in
-    omega arith
+    m ∙ sym n
 
-pub firsts : (s t ys : List ℕ) → 8 ≤ length t → s ≡ first_bytes → ys ≡ take (length s) s ++ drop (length s) (take 8 t) → ys ++ drop 8 t ≡ first_bytes ++ drop 8 t
-unfolding first_bytes
-firsts s t ys h e q =
-    let n : length s ≡ 8 = ap length e in
-    let m : length (take 8 t) ≡ 8 = length-take-le 8 t h in
-    ap (λ (x : List ℕ). x ++ drop 8 t) (copied s (take 8 t) ys (m ∙ sym n) q ∙ e)
+pub firsts : (s t ys : List ℕ) → s ≡ first_bytes → ys ≡ s → ys ++ drop 8 t ≡ first_bytes ++ drop 8 t
+firsts s t ys e q = ap (λ (x : List ℕ). x ++ drop 8 t) (q ∙ e)
 
 -- `put_fields`: five numbers behind the first bytes
 pub fields : (count nonce pages sector size : ℕ) (t t₁ t₂ t₃ t₄ t₅ t₆ : List ℕ) → t₁ ≡ first_bytes ++ drop 8 t
@@ -75,7 +70,7 @@ join l x y ys zs a k m h q e f =
 
 pub record_put : (at number nonce sum : ℕ) (page t t₁ ys t₂ t₃ : List ℕ) → at + (length page + 8) ≤ length t
     → t₁ ≡ with_part at 4 t (bytes_of number)
-    → ys ≡ take (length page) page ++ drop (length page) (take (at + 4 + length page - (at + 4)) (drop (at + 4) t₁))
+    → ys ≡ page
     → t₂ ≡ with_part (at + 4) (at + 4 + length page - (at + 4)) t₁ ys
     → sum ≡ checksum nonce (length page) page → t₃ ≡ with_part (at + 4 + length page) 4 t₂ (bytes_of sum)
     → t₃ ≡ with_part at (length page + 8) t (record_bytes nonce (length page) (record { number = number; image = page }))
@@ -83,11 +78,7 @@ unfolding record_bytes
 record_put at number nonce sum page t t₁ ys t₂ t₃ h e₁ q e₂ es e₃ =
     let n : ℕ = length page in
     let d : at + 4 + n - (at + 4) ≡ n = omega arith in
-    let l₁ : drop (at + 4) t₁ ≡ drop (at + 4) t = with_drop at 4 (at + 4) t t₁ (bytes_of number) (omega arith) (length_bytes number) refl e₁ in
-    let m : length (drop (at + 4) t) ≡ length t - (at + 4) = length-drop (at + 4) t in
-    let g : length (take (at + 4 + n - (at + 4)) (drop (at + 4) t₁)) ≡ n = rw (d, l₁) (length-take-le n (drop (at + 4) t) (omega arith)) in
-    let z : ys ≡ page = copied page (take (at + 4 + n - (at + 4)) (drop (at + 4) t₁)) ys g q in
-    let f₂ : t₂ ≡ with_part (at + 4) n t₁ page = e₂ ∙ rw (d, z) refl in
+    let f₂ : t₂ ≡ with_part (at + 4) n t₁ page = e₂ ∙ rw (d, q) refl in
     let two : t₂ ≡ with_part at (4 + n) t (bytes_of number ++ page) = join t t₁ t₂ (bytes_of number) page at 4 n (omega arith) (length_bytes number) e₁ f₂ in
     let w : length (bytes_of number ++ page) ≡ 4 + n = length-append (bytes_of number) page ∙ ap (λ (i : ℕ). i + n) (length_bytes number) in
     let p : at + 4 + n ≡ at + (4 + n) = omega arith in
