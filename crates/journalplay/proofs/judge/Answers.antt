@@ -27,6 +27,9 @@ returns-then-not-is_header c =
     let a = c.args in
     said_29 a.journal.now a.lent a.page_size ((ap not (sym c.is_size.ensures) ∙ (ap not c.if-not-is_size.false))) ((ap not (sym c.whole_pages.ensures) ∙ (ap not c.if-not-whole_pages.false))) _ c.refused-then-not-is_header.ensures (ap not (sym c.is_header.ensures) ∙ (ap not c.if-not-is_header.true))
 
+pub nonzero_div-lent : goal.nonzero_div-lent
+nonzero_div-lent c = omega (arith, size_range _ (not-false _ ((ap not (sym c.is_size.ensures) ∙ (ap not c.if-not-is_size.false)))))
+
 pub look_all-seen-requires : goal.look_all-seen-requires
 look_all-seen-requires c =
     let a = c.args in

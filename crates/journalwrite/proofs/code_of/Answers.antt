@@ -1,4 +1,5 @@
 -- Each return is the case of `write_code` that its tests pick.
+use native.Mathlib.Omega.{arith}
 use mathlib.Core.Path.{sym, ap, ◌∙◌}
 use mathlib.Core.Bool.{false, not}
 use lib.ListN.{length}
@@ -24,6 +25,12 @@ pub returns-then-not-whole_pages : goal.returns-then-not-whole_pages
 returns-then-not-whole_pages c =
     let a = c.args in
     code_27 a.list.now a.lent a.room a.page_size a.sector ((sym c.any_past.ensures ∙ c.if-any_past.false)) ((sym (same_tests _ _ _ _ _ c.is_size.ensures c.is_sector.ensures) ∙ (ap not c.if-not-is_size-is_sector.false))) (ap not (sym c.whole_pages.ensures) ∙ (ap not c.if-not-whole_pages.true))
+
+pub overflow_mul-n : goal.overflow_mul-n
+overflow_mul-n c = omega (arith, (sizes c.args.page_size c.args.sector (length c.args.list.now) ((sym (same_tests _ _ _ _ _ c.is_size.ensures c.is_sector.ensures) ∙ (ap not c.if-not-is_size-is_sector.false)))).2)
+
+pub overflow_add-sector : goal.overflow_add-sector
+overflow_add-sector c = omega (arith, (sizes c.args.page_size c.args.sector (length c.args.list.now) ((sym (same_tests _ _ _ _ _ c.is_size.ensures c.is_sector.ensures) ∙ (ap not c.if-not-is_size-is_sector.false)))).1)
 
 pub returns-then-room-sector : goal.returns-then-room-sector
 returns-then-room-sector c =

@@ -16,6 +16,9 @@ returns-then-not-is_sound c = judge_unsound ((let a = c.args in lent_of a.fixed.
 pub params_of-given-requires : goal.params_of-given-requires
 params_of-given-requires c = ((sound_shaped ((let a = c.args in lent_of a.fixed.now a.marks.now a.log.now a.stored.now a.tables.now a.online.now a.pool.now)) (sym c.is_sound.ensures ∙ c.if-not-is_sound.false))).sized.fixed
 
+pub overflow_cast-given : goal.overflow_cast-given
+overflow_cast-given c = omega (arith, ((sound_shaped ((let a = c.args in lent_of a.fixed.now a.marks.now a.log.now a.stored.now a.tables.now a.online.now a.pool.now)) (sym c.is_sound.ensures ∙ c.if-not-is_sound.false))).sized.pages, c.params_of-given.ensures.pages)
+
 pub may_write-requires : goal.may_write-requires
 may_write-requires c = omega (arith, ((sound_shaped ((let a = c.args in lent_of a.fixed.now a.marks.now a.log.now a.stored.now a.tables.now a.online.now a.pool.now)) (sym c.is_sound.ensures ∙ c.if-not-is_sound.false))).sized.size, c.params_of-given.ensures.size)
 
