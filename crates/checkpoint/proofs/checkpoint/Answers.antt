@@ -15,4 +15,6 @@ close-requires c =
     (e.shaped, e.logged)
 
 pub returns : goal.returns
-returns c = after_all _ _ _ _ _ _ _ c.compact_all-d.ensures c.close.ensures
+returns c =
+    let e = after_all _ _ _ _ _ _ _ c.compact_all-d.ensures c.close.ensures in
+    record { reads = e.0; writes = e.1.0; lent = e.1.1 }

@@ -16,12 +16,12 @@ marked_step-d-requires c =
 pub overflow_add-reads : goal.overflow_add-reads
 overflow_add-reads c =
     let v = c.loop-j.invariant in
-    record { fits = reads_fit _ _ _ _ _ _ _ v.1 _ _ v.0 c.loop-j-test.true c.requires.0 c.marked_step-d.ensures.0 }
+    record { fits = reads_fit _ _ _ _ _ _ _ v.1 _ _ v.0 c.loop-j-test.true c.requires.0 c.marked_step-d.ensures.reads }
 
 pub overflow_add-writes : goal.overflow_add-writes
 overflow_add-writes c =
     let v = c.loop-j.invariant in
-    record { fits = writes_fit _ _ _ _ _ _ _ v.1 _ _ v.0 c.loop-j-test.true c.requires.0 c.marked_step-d.ensures.1.0 }
+    record { fits = writes_fit _ _ _ _ _ _ _ v.1 _ _ v.0 c.loop-j-test.true c.requires.0 c.marked_step-d.ensures.writes }
 
 pub overflow_add-j : goal.overflow_add-j
 overflow_add-j c = omega (arith, c.loop-j-test.true, c.loop-j.invariant.0, c.requires.0.sized.pages)
@@ -34,7 +34,7 @@ loop-j-preserved c =
     let v = c.loop-j.invariant in
     let h = c.loop-j-test.true in
     let e = c.marked_step-d.ensures in
-    (v.0, after_more _ _ _ _ _ _ _ v.1 _ _ _ _ v.0 h e, noted_more _ _ _ _ _ _ _ v.1 _ _ _ v.0 h v.2 e.1.1)
+    (v.0, after_more _ _ _ _ _ _ _ v.1 _ _ _ _ v.0 h (e.reads, (e.writes, e.lent)), noted_more _ _ _ _ _ _ _ v.1 _ _ _ v.0 h v.2 e.lent)
 
 pub shape_of-marks : goal.shape_of-marks
 shape_of-marks c = (same_lengths _ _ _ _ _ _ _ c.loop-j.invariant.1 c.requires.0).0
