@@ -62,8 +62,7 @@ fn judge(journal: &[u8], lent: usize, page_size: u32) -> Judged
     }
 }
 
-#[unsafe(no_mangle)]
-pub extern "C" fn ventarico_journal_play(journal: &[u8], pages: &mut [u8], page_size: u32) -> Reply
+pub fn ventarico_journal_play(journal: &[u8], pages: &mut [u8], page_size: u32) -> Reply
     ensures { Told (play_call journal.now pages.old page_size) result pages.new }
 {
     let judged = judge(journal, pages.len(), page_size);

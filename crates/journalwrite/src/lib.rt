@@ -34,8 +34,7 @@ fn code_of(list: &[u32], lent: usize, room: usize, page_size: u32, sector: u32) 
     0
 }
 
-#[unsafe(no_mangle)]
-pub extern "C" fn ventarico_journal_write(
+pub fn ventarico_journal_write(
     pages: &[u8],
     list: &[u32],
     target: &mut [u8],

@@ -5,8 +5,7 @@ ghost use Rattle.clerk.specs.Rule.{begins, aborts, commits};
 use clerk::Clerk;
 
 // Makes the number live.
-#[unsafe(no_mangle)]
-pub extern "C" fn ventarico_clerk_begin(c: &mut Clerk, x: u32) -> u8
+pub fn ventarico_clerk_begin(c: &mut Clerk, x: u32) -> u8
     ensures { (result ≡ (begins c.old x).code) × (c.new ≡ (begins c.old x).clerk) }
 {
     let b = (*c).begin(x);
@@ -15,8 +14,7 @@ pub extern "C" fn ventarico_clerk_begin(c: &mut Clerk, x: u32) -> u8
 }
 
 // Ends the transaction.
-#[unsafe(no_mangle)]
-pub extern "C" fn ventarico_clerk_abort(c: &mut Clerk, x: u32) -> u8
+pub fn ventarico_clerk_abort(c: &mut Clerk, x: u32) -> u8
     ensures { (result ≡ (aborts c.old x).code) × (c.new ≡ (aborts c.old x).clerk) }
 {
     let b = (*c).abort(x);
@@ -25,8 +23,7 @@ pub extern "C" fn ventarico_clerk_abort(c: &mut Clerk, x: u32) -> u8
 }
 
 // Ends the transaction and takes k log numbers for its records.
-#[unsafe(no_mangle)]
-pub extern "C" fn ventarico_clerk_commit(c: &mut Clerk, x: u32, k: u32) -> u8
+pub fn ventarico_clerk_commit(c: &mut Clerk, x: u32, k: u32) -> u8
     ensures { (result ≡ (commits c.old x k).code) × (c.new ≡ (commits c.old x k).clerk) }
 {
     let b = (*c).commit(x, k);

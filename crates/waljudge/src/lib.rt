@@ -129,8 +129,7 @@ fn found_by(file: &[u8], h: Header, page: u32) -> Found
 }
 
 // Judges a whole file: header at 0, frames behind it.
-#[unsafe(no_mangle)]
-pub extern "C" fn ventarico_wal_judge(file: &[u8]) -> Judged
+pub fn ventarico_wal_judge(file: &[u8]) -> Judged
     ensures { result ≡ judged file.now }
 {
     match wal::open::open(file) {
@@ -149,8 +148,7 @@ pub extern "C" fn ventarico_wal_judge(file: &[u8]) -> Judged
 }
 
 // Where the last image of a page (from 1) begins, frames behind the last commit frame left out.
-#[unsafe(no_mangle)]
-pub extern "C" fn ventarico_wal_find(file: &[u8], page: u32) -> Found
+pub fn ventarico_wal_find(file: &[u8], page: u32) -> Found
     ensures { result ≡ found_in file.now page }
 {
     if page == 0 {

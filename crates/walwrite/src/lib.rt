@@ -238,8 +238,7 @@ fn refused(why: Why) -> Reply
 }
 
 // Writes the log of the listed pages (from 0 here, from 1 there) to the front of the target.
-#[unsafe(no_mangle)]
-pub extern "C" fn ventarico_wal_write(
+pub fn ventarico_wal_write(
     fixed: &[u8],
     marks: &[u8],
     log: &[u8],

@@ -16,7 +16,7 @@ returns-then-any_past c =
 pub returns-then-not-is_size-is_sector : goal.returns-then-not-is_size-is_sector
 returns-then-not-is_size-is_sector c =
     let a = c.args in
-    code_26 a.list.now a.lent a.room a.page_size a.sector ((sym c.any_past.ensures ∙ c.if-any_past.false)) (sym (same_tests _ _ _ _ _ c.is_size.ensures c.is_sector.ensures) ∙ (ap not c.if-not-is_size-is_sector.true))
+    code_26 a.list.now a.lent a.room a.page_size a.sector (sym c.any_past.ensures ∙ c.if-any_past.false) (sym (same_tests _ _ _ _ _ c.is_size.ensures c.is_sector.ensures) ∙ (ap not c.if-not-is_size-is_sector.true))
 
 pub whole_pages-requires : goal.whole_pages-requires
 whole_pages-requires c = (sizes c.args.page_size c.args.sector (length c.args.list.now) ((sym (same_tests _ _ _ _ _ c.is_size.ensures c.is_sector.ensures) ∙ (ap not c.if-not-is_size-is_sector.false)))).0
@@ -24,7 +24,7 @@ whole_pages-requires c = (sizes c.args.page_size c.args.sector (length c.args.li
 pub returns-then-not-whole_pages : goal.returns-then-not-whole_pages
 returns-then-not-whole_pages c =
     let a = c.args in
-    code_27 a.list.now a.lent a.room a.page_size a.sector ((sym c.any_past.ensures ∙ c.if-any_past.false)) ((sym (same_tests _ _ _ _ _ c.is_size.ensures c.is_sector.ensures) ∙ (ap not c.if-not-is_size-is_sector.false))) (ap not (sym c.whole_pages.ensures) ∙ (ap not c.if-not-whole_pages.true))
+    code_27 a.list.now a.lent a.room a.page_size a.sector (sym c.any_past.ensures ∙ c.if-any_past.false) ((sym (same_tests _ _ _ _ _ c.is_size.ensures c.is_sector.ensures) ∙ (ap not c.if-not-is_size-is_sector.false))) (ap not (sym c.whole_pages.ensures) ∙ (ap not c.if-not-whole_pages.true))
 
 pub overflow_mul-n : goal.overflow_mul-n
 overflow_mul-n c = omega (arith, (sizes c.args.page_size c.args.sector (length c.args.list.now) ((sym (same_tests _ _ _ _ _ c.is_size.ensures c.is_sector.ensures) ∙ (ap not c.if-not-is_size-is_sector.false)))).2)
@@ -35,14 +35,14 @@ overflow_add-sector c = omega (arith, (sizes c.args.page_size c.args.sector (len
 pub returns-then-room-sector : goal.returns-then-room-sector
 returns-then-room-sector c =
     let a = c.args in
-    code_14 a.list.now a.lent a.room a.page_size a.sector ((sym c.any_past.ensures ∙ c.if-any_past.false)) ((sym (same_tests _ _ _ _ _ c.is_size.ensures c.is_sector.ensures) ∙ (ap not c.if-not-is_size-is_sector.false))) ((ap not (sym c.whole_pages.ensures) ∙ (ap not c.if-not-whole_pages.false))) c.if-room-sector.true
+    code_14 a.list.now a.lent a.room a.page_size a.sector (sym c.any_past.ensures ∙ c.if-any_past.false) ((sym (same_tests _ _ _ _ _ c.is_size.ensures c.is_sector.ensures) ∙ (ap not c.if-not-is_size-is_sector.false))) ((ap not (sym c.whole_pages.ensures) ∙ (ap not c.if-not-whole_pages.false))) c.if-room-sector.true
 
 pub returns-then-n-eq0 : goal.returns-then-n-eq0
 returns-then-n-eq0 c =
     let a = c.args in
-    code_15 a.list.now a.lent a.room a.page_size a.sector ((sym c.any_past.ensures ∙ c.if-any_past.false)) ((sym (same_tests _ _ _ _ _ c.is_size.ensures c.is_sector.ensures) ∙ (ap not c.if-not-is_size-is_sector.false))) ((ap not (sym c.whole_pages.ensures) ∙ (ap not c.if-not-whole_pages.false))) c.if-room-sector.false c.if-n-eq0.true
+    code_15 a.list.now a.lent a.room a.page_size a.sector (sym c.any_past.ensures ∙ c.if-any_past.false) ((sym (same_tests _ _ _ _ _ c.is_size.ensures c.is_sector.ensures) ∙ (ap not c.if-not-is_size-is_sector.false))) ((ap not (sym c.whole_pages.ensures) ∙ (ap not c.if-not-whole_pages.false))) c.if-room-sector.false c.if-n-eq0.true
 
 pub returns : goal.returns
 returns c =
     let a = c.args in
-    code_0 a.list.now a.lent a.room a.page_size a.sector ((sym c.any_past.ensures ∙ c.if-any_past.false)) ((sym (same_tests _ _ _ _ _ c.is_size.ensures c.is_sector.ensures) ∙ (ap not c.if-not-is_size-is_sector.false))) ((ap not (sym c.whole_pages.ensures) ∙ (ap not c.if-not-whole_pages.false))) c.if-room-sector.false c.if-n-eq0.false
+    code_0 a.list.now a.lent a.room a.page_size a.sector (sym c.any_past.ensures ∙ c.if-any_past.false) ((sym (same_tests _ _ _ _ _ c.is_size.ensures c.is_sector.ensures) ∙ (ap not c.if-not-is_size-is_sector.false))) ((ap not (sym c.whole_pages.ensures) ∙ (ap not c.if-not-whole_pages.false))) c.if-room-sector.false c.if-n-eq0.false

@@ -35,10 +35,10 @@ sound_online-requires c =
       c.load-n.ensures.0,
       c.load-last.ensures.0,
       c.load-last.ensures.1,
-      count_within a.tables.now a.g.pages a.g.frames a.g.online ((sym c.sound_tables.ensures ∙ c.if-not-sound_tables.false)),
+      count_within a.tables.now a.g.pages a.g.frames a.g.online (sym c.sound_tables.ensures ∙ c.if-not-sound_tables.false),
     )
 
 pub returns : goal.returns
 returns c =
-    and_kept _ _ _ ((sym c.sound_tables.ensures ∙ c.if-not-sound_tables.false))
+    and_kept _ _ _ (sym c.sound_tables.ensures ∙ c.if-not-sound_tables.false)
     (rw (c.load-m.ensures.0, c.load-n.ensures.0, c.load-last.ensures.0) at c.sound_online.ensures)

@@ -7,12 +7,12 @@ use Rattle.sound.proofs.Laws.{lost_is}
 use Rattle.sound.proofs.sound_lost.Goals as goal
 
 pub params_of-requires : goal.params_of-requires
-params_of-requires c = (durable_sized ((let a = c.args in areas a.fixed.now a.marks.now a.log.now a.stored.now a.tables.now a.online.now a.pool.now)) c.requires).fixed
+params_of-requires c = (durable_sized (areas c.args.fixed.now c.args.marks.now c.args.log.now c.args.stored.now c.args.tables.now c.args.online.now c.args.pool.now) c.requires).fixed
 
 pub lost_at-requires : goal.lost_at-requires
-lost_at-requires c = omega (arith, c.params_of.ensures, durable_sized ((let a = c.args in areas a.fixed.now a.marks.now a.log.now a.stored.now a.tables.now a.online.now a.pool.now)) c.requires, durable_logged ((let a = c.args in areas a.fixed.now a.marks.now a.log.now a.stored.now a.tables.now a.online.now a.pool.now)) c.requires)
+lost_at-requires c = omega (arith, c.params_of.ensures, durable_sized (areas c.args.fixed.now c.args.marks.now c.args.log.now c.args.stored.now c.args.tables.now c.args.online.now c.args.pool.now) c.requires, durable_logged (areas c.args.fixed.now c.args.marks.now c.args.log.now c.args.stored.now c.args.tables.now c.args.online.now c.args.pool.now) c.requires)
 
 pub returns : goal.returns
 returns c =
     (rw (c.params_of.ensures.size, c.params_of.ensures.pages, c.params_of.ensures.frames, c.params_of.ensures.online) at c.lost_at.ensures)
-    ∙ lost_is ((let a = c.args in areas a.fixed.now a.marks.now a.log.now a.stored.now a.tables.now a.online.now a.pool.now))
+    ∙ lost_is (areas c.args.fixed.now c.args.marks.now c.args.log.now c.args.stored.now c.args.tables.now c.args.online.now c.args.pool.now)

@@ -5,8 +5,7 @@ ghost use Rattle.ventarico.specs.Said.{Told};
 
 use rules::{Reply, Verdict};
 
-#[unsafe(no_mangle)]
-pub extern "C" fn ventarico_begin(
+pub fn ventarico_begin(
     fixed: &[u8],
     marks: &[u8],
     log: &[u8],

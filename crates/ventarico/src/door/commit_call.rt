@@ -5,8 +5,7 @@ ghost use Rattle.ventarico.specs.Said.{Told};
 
 use rules::{Reply, Verdict};
 
-#[unsafe(no_mangle)]
-pub extern "C" fn ventarico_commit(
+pub fn ventarico_commit(
     fixed: &[u8],
     marks: &mut [u8],
     log: &mut [u8],

@@ -6,8 +6,7 @@ ghost use Rattle.ventarico.specs.Said.{Told};
 
 use rules::{Params, Reply, Verdict};
 
-#[unsafe(no_mangle)]
-pub extern "C" fn ventarico_format(
+pub fn ventarico_format(
     fixed: &mut [u8],
     marks: &mut [u8],
     log: &mut [u8],

@@ -7,8 +7,7 @@ ghost use Rattle.ventarico.specs.Said.{Told};
 use number::PageNo;
 use rules::{Reply, Verdict};
 
-#[unsafe(no_mangle)]
-pub extern "C" fn ventarico_read(
+pub fn ventarico_read(
     fixed: &[u8],
     marks: &[u8],
     log: &[u8],

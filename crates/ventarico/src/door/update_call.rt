@@ -6,8 +6,7 @@ ghost use Rattle.ventarico.specs.Said.{Told};
 use number::PageNo;
 use rules::{Reply, Verdict};
 
-#[unsafe(no_mangle)]
-pub extern "C" fn ventarico_update(
+pub fn ventarico_update(
     fixed: &[u8],
     marks: &[u8],
     log: &[u8],

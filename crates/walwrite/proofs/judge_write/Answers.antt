@@ -11,18 +11,18 @@ use Rattle.std.proofs.Common.{sym}
 use Rattle.walwrite.proofs.judge_write.Goals as goal
 
 pub returns-then-not-is_sound : goal.returns-then-not-is_sound
-returns-then-not-is_sound c = judge_unsound ((let a = c.args in lent_of a.fixed.now a.marks.now a.log.now a.stored.now a.tables.now a.online.now a.pool.now)) _ _ _ _ c.is_sound.ensures (ap not c.if-not-is_sound.true)
+returns-then-not-is_sound c = judge_unsound ((lent_of c.args.fixed.now c.args.marks.now c.args.log.now c.args.stored.now c.args.tables.now c.args.online.now c.args.pool.now)) _ _ _ _ c.is_sound.ensures (ap not c.if-not-is_sound.true)
 
 pub params_of-given-requires : goal.params_of-given-requires
-params_of-given-requires c = ((sound_shaped ((let a = c.args in lent_of a.fixed.now a.marks.now a.log.now a.stored.now a.tables.now a.online.now a.pool.now)) (sym c.is_sound.ensures ∙ c.if-not-is_sound.false))).sized.fixed
+params_of-given-requires c = ((sound_shaped ((lent_of c.args.fixed.now c.args.marks.now c.args.log.now c.args.stored.now c.args.tables.now c.args.online.now c.args.pool.now)) (sym c.is_sound.ensures ∙ c.if-not-is_sound.false))).sized.fixed
 
 pub overflow_cast-given : goal.overflow_cast-given
-overflow_cast-given c = omega (arith, ((sound_shaped ((let a = c.args in lent_of a.fixed.now a.marks.now a.log.now a.stored.now a.tables.now a.online.now a.pool.now)) (sym c.is_sound.ensures ∙ c.if-not-is_sound.false))).sized.pages, c.params_of-given.ensures.pages)
+overflow_cast-given c = omega (arith, ((sound_shaped ((lent_of c.args.fixed.now c.args.marks.now c.args.log.now c.args.stored.now c.args.tables.now c.args.online.now c.args.pool.now)) (sym c.is_sound.ensures ∙ c.if-not-is_sound.false))).sized.pages, c.params_of-given.ensures.pages)
 
 pub may_write-requires : goal.may_write-requires
-may_write-requires c = omega (arith, ((sound_shaped ((let a = c.args in lent_of a.fixed.now a.marks.now a.log.now a.stored.now a.tables.now a.online.now a.pool.now)) (sym c.is_sound.ensures ∙ c.if-not-is_sound.false))).sized.size, c.params_of-given.ensures.size)
+may_write-requires c = omega (arith, ((sound_shaped ((lent_of c.args.fixed.now c.args.marks.now c.args.log.now c.args.stored.now c.args.tables.now c.args.online.now c.args.pool.now)) (sym c.is_sound.ensures ∙ c.if-not-is_sound.false))).sized.size, c.params_of-given.ensures.size)
 
 pub returns : goal.returns
 returns c = let p = c.params_of-given.ensures in
     let a = c.args in
-    judge_sound ((let a = c.args in lent_of a.fixed.now a.marks.now a.log.now a.stored.now a.tables.now a.online.now a.pool.now)) _ _ _ _ _ c.is_sound.ensures (ap not c.if-not-is_sound.false) (c.may_write.ensures ∙ (λ i. may_write (p.size i) (p.pages i) a.list.now a.room a.order))
+    judge_sound ((lent_of c.args.fixed.now c.args.marks.now c.args.log.now c.args.stored.now c.args.tables.now c.args.online.now c.args.pool.now)) _ _ _ _ _ c.is_sound.ensures (ap not c.if-not-is_sound.false) (c.may_write.ensures ∙ (λ i. may_write (p.size i) (p.pages i) a.list.now a.room a.order))
