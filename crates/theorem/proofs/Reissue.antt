@@ -75,7 +75,7 @@ module _ {h k : Past} {t : Lent} (l : Later h k) (q : Rightly k t) where
   later_call Restart = later_restarted t l
 
 -- what follows on a run is a run
-pub after_run : {h k : Past} {s t : Lent} → Run h s → After h s k t → Run k t
+pub after_run : {h : Past} {s : Lent} {k : Past} {t : Lent} → Run h s → After h s k t → Run k t
 after_run r here = r
 after_run r (then_call a n c) = call (after_run r a) n c
 after_run r (then_restart a) = restart (after_run r a)
@@ -83,7 +83,7 @@ after_run r (then_loss a l f) = loss (after_run r a) l f
 after_run r (then_loss_inside a n min_del max_age j e m l f) = loss_inside (after_run r a) n min_del max_age j e m l f
 after_run r (then_no_format a g last why e) = no_format (after_run r a) g last why e
 
-after_later : {h k : Past} {s t : Lent} → Run h s → After h s k t → Later h k
+after_later : {h : Past} {s : Lent} {k : Past} {t : Lent} → Run h s → After h s k t → Later h k
 after_later r here = now
 after_later r (then_call a n c) = later_call (after_later r a) (run_right (after_run r a) n) c
 after_later r (then_restart {t} a) = later_restarted t (after_later r a)
@@ -183,19 +183,19 @@ same_begun x h (Done counts) = record { size = refl; start = refl; made = refl }
 same_begun x h NotDue = record { size = refl; start = refl; made = refl }
 same_begun x h (Refused r) = record { size = refl; start = refl; made = refl }
 
-same_claim : {x : ℕ} {h k : Past} {s t : Lent} → Claim x h s k t → Same x h k
+same_claim : {x : ℕ} {h : Past} {s : Lent} {k : Past} {t : Lent} → Claim x h s k t → Same x h k
 same_claim {x} {h} {s} (claim_begun n e) = same_begun x h (outcome s (Begin x)).answer
 same_claim {x} (claims {t} a c e) = same_told x (same_claim a) c e (outcome t c).answer
 
-claim_up : {x : ℕ} {h k : Past} {s t : Lent} → h.down ≡ false → Claim x h s k t → k.down ≡ false
+claim_up : {x : ℕ} {h : Past} {s : Lent} {k : Past} {t : Lent} → h.down ≡ false → Claim x h s k t → k.down ≡ false
 claim_up {x} {h} {s} u (claim_begun n e) = told_up h (Begin x) (outcome s (Begin x)).answer u
 claim_up u (claims {k} {t} a c e) = told_up k c (outcome t c).answer (claim_up u a)
 
-claim_run : {x : ℕ} {h k : Past} {s t : Lent} → Run h s → h.down ≡ false → Claim x h s k t → Run k t
+claim_run : {x : ℕ} {h : Past} {s : Lent} {k : Past} {t : Lent} → Run h s → h.down ≡ false → Claim x h s k t → Run k t
 claim_run {x} r u (claim_begun n e) = call r u (Begin x)
 claim_run r u (claims a c e) = call (claim_run r u a) (claim_up u a) c
 
-claim_given : {x : ℕ} {h k : Past} {s t : Lent} → Rightly h s → Claim x h s k t → (1 ≤ x) × (h.live x ≡ false)
+claim_given : {x : ℕ} {h : Past} {s : Lent} {k : Past} {t : Lent} → Rightly h s → Claim x h s k t → (1 ≤ x) × (h.live x ≡ false)
 claim_given {x} q (claim_begun n e) = (given_low q x n e, given_new q x n e)
 claim_given q (claims a c e) = claim_given q a
 
