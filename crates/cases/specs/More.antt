@@ -1,7 +1,7 @@
 -- Further cases on the small store, each from a fresh one: what P1 to P12 leave open. Expected values are worked out by hand from 01's rules.
-use Rattle.std.specs.Prelude.{ℕ, ◌≡◌, refl, List, [], ◌∷◌, map, replicate}
+use Rattle.std.specs.Prelude.{◌≡◌, refl, List, [], ◌∷◌, map, replicate}
 use Rattle.rules.specs.Lent.{Lent, lent_of, given}
-use Rattle.cases.specs.Play.{Act, play}
+use Rattle.cases.specs.Play.{play}
 use Rattle.cases.specs.Play.Act.{Begin, Commit, Abort, Evict, Read, Update, Checkpoint, Restart, Loss, Format, Stored, Last, Closed, Logged, Online, Order, Stamp, Entry}
 use Rattle.cases.specs.Small.{Case, ◌gives◌, done, blank}
 

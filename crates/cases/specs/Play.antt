@@ -1,9 +1,9 @@
 -- A list of calls, played on lent bytes: what each answers and shows.
-use Rattle.std.specs.Prelude.{ℕ, ◌+◌, ◌*◌, List, [], ◌∷◌, ◌++◌, map, length, get_or, take, replicate}
+use Rattle.std.specs.Prelude.{ℕ, ◌+◌, ◌*◌, List, [], ◌∷◌, ◌++◌, map, length, get_or, replicate}
 use Rattle.rules.specs.declared.Reply.{Reply}
 use Rattle.rules.specs.declared.Params.{Params}
 use Rattle.rules.specs.Answers.{reply_of}
-use Rattle.rules.specs.Lent.{Lent, lent_of, size_of, last_of, closed_of, first_number_of, logged_of, stamp_of, dirty_of, entry_of, order_of, online_of, live_of}
+use Rattle.rules.specs.Lent.{Lent, lent_of, size_of, last_of, closed_of, first_number_of, logged_of, stamp_of, dirty_of, entry_of, order_of, online_of}
 use Rattle.word.specs.Word.{num, put}
 use Rattle.record.specs.Rows.{rows, joined, table, keep, any}
 use Rattle.record.specs.Record.{number_of, is_length, well_formed, changed, change, apply, applied, row_of, numbered, entered, number_rows, lesser, smallest, greatest, share_byte, free}

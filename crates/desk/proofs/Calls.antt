@@ -3,7 +3,7 @@ use Prim.Native.Nat.{ℕ, ◌+◌, ◌*◌, ◌^◌, ◌<◌}
 use native.Mathlib.Omega.{arith}
 use mathlib.Core.Path.{◌≡◌, refl, sym, ap, ◌∙◌, subst}
 use mathlib.Core.Bool.{Bool, true, false, ◌&&◌}
-use mathlib.Core.List.{List, [], ◌++◌}
+use mathlib.Core.List.{List, ◌++◌}
 use lib.ListN.{length, take, drop}
 use lib.Seq.{take_at}
 use lib.Dec.{eqb, ltb}
@@ -16,13 +16,12 @@ use Rattle.record.proofs.Changes.{length_applied}
 use Rattle.rules.specs.declared.Refusal.{Refusal}
 use Rattle.rules.specs.declared.Refusal.TheVariants.{NotSound, Argument, ShortBuffer, NotLive, Live, Held, OnlineFull, LogFull, NumbersEnd, NoFrame}
 use Rattle.rules.specs.Answers.{code_of}
-use Rattle.rules.specs.Lent.{Lent, params_of, size_of, pages_of, frames_of, online_size_of, log_size_of, online_of, page_in}
-use Rattle.rules.specs.Sound.{every, is_page_size, in_range, s1_parameters, s2_lengths, s3_logged, s16_logged, s18_first, s15_stamps, s17_s19_dirty, s7_log_records, s14_log_zero, sound_durable, sound}
+use Rattle.rules.specs.Lent.{Lent, params_of, size_of, pages_of, online_of, page_in}
+use Rattle.rules.specs.Sound.{is_page_size, in_range, s1_parameters, s2_lengths, s3_logged, s16_logged, s18_first, s15_stamps, s17_s19_dirty, s7_log_records, s14_log_zero, sound_durable, sound}
 use Rattle.rules.proofs.Clauses.{sound_gives_durable}
 use Rattle.sound.proofs.Laws.{sound_shaped}
 use Rattle.readback.proofs.Pages.{page_length}
 use Rattle.wal.specs.Layout as wal
-use Rattle.wal.specs.Written.{written}
 use Rattle.walwrite.specs.declared.Why.{Why}
 use Rattle.walwrite.specs.declared.Why.TheVariants.{Store, ShortTarget, EmptyList}
 use Rattle.walwrite.specs.declared.Ruling.{Ruling}

@@ -11,7 +11,7 @@ use lib.Dec.{eqb, leb, ltb}
 use borrow.Author.Tests.{eqb-true, ne_eqb, leb-true, le-leb, ltb-true}
 use Rattle.word.proofs.Tests.{and_both}
 use Rattle.record.specs.Record.{owner_of, number_of, committed, well_formed}
-use Rattle.rules.specs.Lent.{Lent, params_of, Durable, size_of, pages_of, frames_of, online_size_of, log_size_of, last_of, logged_of, online_of}
+use Rattle.rules.specs.Lent.{Lent, params_of, Durable, size_of, pages_of, last_of, logged_of, online_of}
 use Rattle.rules.specs.Sound.{every, pairs, between}
 use Rattle.rules.proofs.Every.{or_right, every_kept, every_imp}
 use Rattle.rules.proofs.Extremes.{number_at_most}

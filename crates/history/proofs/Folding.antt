@@ -1,6 +1,6 @@
 -- What compact does to rows: a page's committed online records are folded into its stored page, and its new stamp is their greatest number.
 -- So no committed update of that page is above its stamp any more, and those of other pages are as before.
-use Prim.Native.Nat.{ℕ, ◌+◌, ◌≤◌}
+use Prim.Native.Nat.{ℕ, ◌≤◌}
 use native.Mathlib.Omega.{arith}
 use mathlib.Core.Path.{◌≡◌, refl, sym, ap, ◌∙◌}
 use mathlib.Core.Bool.{Bool, true, false, not, ◌&&◌, ◌||◌, and-true, and-false}
@@ -10,7 +10,7 @@ use lib.Dec.{leb, ltb}
 use borrow.Author.Tests.{leb-true, ltb-true, ltb-false, le-ltb, eqb-true, eqb-false}
 use Rattle.word.specs.Word.{num}
 use Rattle.word.proofs.Tests.{and_both}
-use Rattle.record.specs.Rows.{keep, cons_if, any}
+use Rattle.record.specs.Rows.{keep, cons_if}
 use Rattle.record.specs.Record.{page_of, number_of, committed, applied, on_page, committed_on, greatest}
 use Rattle.rules.specs.Lent.{stamp_at}
 use Rattle.rules.specs.Sound.{every, pairs}

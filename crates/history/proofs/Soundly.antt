@@ -10,11 +10,10 @@ use lib.Seq.{get_or-drop}
 use lib.Dec.{eqb, leb}
 use borrow.Author.Tests.{eq-eqb, eqb-true, le-leb, leb-true, ltb-true}
 use Rattle.word.proofs.Tests.{and_both, and_in}
-use Rattle.record.specs.Part.{part}
-use Rattle.record.specs.Rows.{row_at, rows, keep, any}
+use Rattle.record.specs.Rows.{row_at, rows, keep}
 use Rattle.record.specs.Record.{owner_of, number_of, committed, body_of, entered, well_formed, free}
 use Rattle.rules.specs.Lent.{Lent, Durable, size_of, pages_of, last_of, logged_of, first_number_of, log_of, live_of, online_of}
-use Rattle.rules.specs.Sound.{every, pairs, between, apart, same, sound_durable, sound}
+use Rattle.rules.specs.Sound.{every, pairs, apart, same, sound_durable, sound}
 use Rattle.rules.proofs.Every.{or_left, or_right, every_keep, every_imp}
 use Rattle.redo.proofs.Order.{free_sym, pairs_imp}
 use Rattle.redo.proofs.Views.{rising}

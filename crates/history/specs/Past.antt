@@ -1,5 +1,5 @@
 -- The history: what the calls and their answers tell, and nothing else. No table is looked at, and nothing is ever compacted or dropped. docs/RULES.md 10.
-use Rattle.std.specs.Prelude.{ℕ, ◌+◌, Bool, true, false, cond, not, ◌&&◌, ◌||◌, List, [], ◌∷◌, ◌++◌, length, eqb, leb}
+use Rattle.std.specs.Prelude.{ℕ, ◌+◌, Bool, true, false, not, ◌&&◌, ◌||◌, List, [], ◌∷◌, ◌++◌, length, eqb, leb}
 use Rattle.record.specs.Rows.{keep}
 use Rattle.record.specs.Record.{number_of, committed, applied, on_page, committed_on, owned_by, number_rows}
 use Rattle.rules.specs.declared.Params.{Params}

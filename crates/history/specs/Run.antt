@@ -1,5 +1,5 @@
 -- How a store comes by its bytes: an accepted format, then calls with any arguments, accepted or refused, and power losses. docs/RULES.md 9 and 10.
-use Rattle.std.specs.Prelude.{ℕ, ◌+◌, ◌≤◌, ◌≡◌, Bool, true, false, cond, List, [], length, leb}
+use Rattle.std.specs.Prelude.{ℕ, ◌+◌, ◌≤◌, ◌≡◌, false, cond, List, length, leb}
 use Rattle.record.specs.Record.{row_of}
 use Rattle.rules.specs.declared.Params.{Params}
 use Rattle.rules.specs.declared.Refusal.{Refusal}

@@ -10,7 +10,7 @@ use lib.Seq.{get_or-set_same, get_or-set_other}
 use lib.Dec.{eqb, leb, ltb}
 use borrow.Author.Tests.{eqb-true, eqb-false, eq-eqb, ne_eqb, le-leb}
 use Rattle.record.specs.Rows.{row_at, rows, keep, cons_if, any}
-use Rattle.record.specs.Record.{page_of, number_of, committed, applied, on_page, committed_on, gone, body_of, greatest, well_formed}
+use Rattle.record.specs.Record.{page_of, number_of, committed, applied, on_page, committed_on, body_of, greatest, well_formed}
 use Rattle.record.proofs.Changes.{length_applied}
 use Rattle.rules.specs.Lent.{Lent, size_of, pages_of, frames_of, last_of, closed_of, logged_of, first_number_of, stamp_of, dirty_of, order_of, entry_of, entries_of, online_of, in_frame, frame_of, is_dirty, clean_in, page_in}
 use Rattle.rules.specs.Sound.{every, zeros, apart, same, sound}

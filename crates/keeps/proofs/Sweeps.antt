@@ -11,7 +11,7 @@ use Rattle.word.specs.Word.{num, put}
 use Rattle.word.proofs.Laws.{length_put}
 use Rattle.word.proofs.Puts.{num_put}
 use Rattle.record.specs.Part.{with_part}
-use Rattle.record.specs.Rows.{keep, any}
+use Rattle.record.specs.Rows.{keep}
 use Rattle.record.specs.Record.{page_of, committed, committed_on, greatest, smallest}
 use Rattle.record.proofs.Parts.{length_with}
 use Rattle.rules.specs.Lent.{Lent, size_of, pages_of, online_size_of, last_of, logged_of, stamp_at, dirty_at, online_of}

@@ -1,5 +1,5 @@
 -- The use order: the frames in use, the least recently used first. docs/RULES.md 6.
-use Rattle.std.specs.Prelude.{ℕ, zero, suc, ◌+◌, Bool, true, false, cond, not, ◌||◌, List, [], ◌∷◌, ◌++◌, get_or, eqb}
+use Rattle.std.specs.Prelude.{ℕ, zero, suc, ◌+◌, Bool, false, cond, ◌||◌, List, [], ◌∷◌, ◌++◌, get_or, eqb}
 
 -- the frame stands in the order: it is in use
 unfoldable pub named : ℕ → List ℕ → Bool

@@ -3,7 +3,6 @@ use Prim.Native.Nat.{ℕ, ◌^◌, ◌≤◌, ◌<◌}
 use native.Mathlib.Omega.{arith}
 use native.Mathlib.Nat.{pow-le-pow_right, lt_of_lt_of_le}
 use mathlib.Core.Path.{◌≡◌, refl}
-use lib.ListN.{length}
 use Rattle.word.specs.Word.{num, put}
 use Rattle.record.specs.Record.{page_of, offset_of, length_of, kind_of, value_of, owner_of, number_of, row_of}
 

@@ -7,8 +7,7 @@ use mathlib.Core.Bool.{Bool, true, false, cond}
 use mathlib.Core.List.{List, ◌++◌, append-nil}
 use lib.ListN.{length, get_or, drop, set, replicate}
 use lib.Seq.{get_or-take, get_or-drop, get_or-set_same, drop-length}
-use lib.Dec.{eqb}
-use borrow.Author.Tests.{eq-eqb, ne_eqb, eqb-true}
+use borrow.Author.Tests.{eq-eqb, ne_eqb}
 use borrow.Author.Fill.{fill_more}
 use Rattle.word.specs.Word.{num}
 use Rattle.word.proofs.Tests.{among_four}

@@ -1,6 +1,5 @@
 -- 01's number and values for each answer. docs/RULES.md 8.
 use Rattle.std.specs.Prelude.{ℕ}
-use Rattle.rules.specs.declared.Bad.{Bad}
 use Rattle.rules.specs.declared.Refusal.{Refusal}
 use Rattle.rules.specs.declared.Refusal.TheVariants.{NotSound, Argument, ShortBuffer, NotLive, Live, Held, OnlineFull, LogFull, NumbersEnd, NoFrame}
 use Rattle.rules.specs.declared.Answer.{Answer}

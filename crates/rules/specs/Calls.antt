@@ -1,9 +1,8 @@
 -- The calls: the refusals in 01's order, and what is left. A refusal leaves every lent byte. docs/RULES.md 8.
-use Rattle.std.specs.Prelude.{ℕ, ◌+◌, ◌-◌, ◌^◌, Bool, true, false, cond, not, ◌&&◌, ◌||◌, List, [], ◌∷◌, length, get_or, eqb, leb, ltb}
+use Rattle.std.specs.Prelude.{ℕ, ◌+◌, ◌^◌, Bool, true, false, not, ◌&&◌, List, [], ◌∷◌, length, get_or, eqb, leb, ltb}
 use Rattle.record.specs.Rows.{any}
-use Rattle.record.specs.Record.{page_of, owner_of, committed, offset_of, length_of, is_length, row_of, overlaps}
+use Rattle.record.specs.Record.{owner_of, committed, is_length, row_of, overlaps}
 use Rattle.rules.specs.declared.Params.{Params}
-use Rattle.rules.specs.declared.Bad.{Bad}
 use Rattle.rules.specs.declared.Bad.TheVariants.{Page, Number, Length, Place, Value, Kind, Parameter, Lent as LentLength}
 use Rattle.rules.specs.declared.Refusal.{Refusal}
 use Rattle.rules.specs.declared.Refusal.TheVariants.{NotSound, Argument, ShortBuffer, NotLive, Live, Held, OnlineFull, LogFull, NumbersEnd, NoFrame}

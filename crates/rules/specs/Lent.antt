@@ -2,7 +2,7 @@
 use Rattle.std.specs.Prelude.{ℕ, ◌+◌, ◌*◌, ◌-◌, ◌/◌, ◌%◌, Bool, not, List, ◌++◌, length, get_or, take, set, replicate, eqb}
 use Rattle.word.specs.Word.{num, put}
 use Rattle.record.specs.Part.{part, with_part}
-use Rattle.record.specs.Rows.{rows, table}
+use Rattle.record.specs.Rows.{rows}
 use Rattle.record.specs.Record.{log_width, online_width}
 use Rattle.rules.specs.declared.Params.{Params}
 

@@ -1,5 +1,5 @@
 -- What inner functions ask of the lent tables: less than soundness, enough to be safe, and kept by every step. Soundness gives it (crate `sound`).
-use Rattle.std.specs.Prelude.{ℕ, ◌+◌, ◌*◌, ◌/◌, ◌≤◌, ◌≡◌, Bool, true, List, length, leb, ltb}
+use Rattle.std.specs.Prelude.{ℕ, ◌*◌, ◌/◌, ◌≤◌, ◌≡◌, Bool, true, List, length, leb, ltb}
 use Rattle.record.specs.Record.{online_width, log_width, page_of}
 use Rattle.rules.specs.declared.Params.{Params}
 use Rattle.rules.specs.Lent.{tables_length, marks_length, fixed_length, Lent, size_of, pages_of, frames_of, online_size_of, log_size_of, logged_of, count_of, used_of, order_of, entries_of}

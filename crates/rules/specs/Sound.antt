@@ -1,6 +1,5 @@
 -- "Sound tables": one definition for each sentence, S1 to S20. docs/TRACE.md has the same labels. docs/RULES.md 5.
-use Rattle.std.specs.Prelude.{ℕ, zero, suc, ◌+◌, ◌*◌, ◌-◌, ◌/◌, ◌%◌, Bool, true, false, cond, not, ◌&&◌, ◌||◌, List, [], ◌∷◌, ◌++◌, length, get_or, take, drop, eqb, leb, ltb}
-use Rattle.word.specs.Word.{num}
+use Rattle.std.specs.Prelude.{ℕ, zero, suc, ◌+◌, ◌*◌, ◌-◌, ◌/◌, Bool, true, false, cond, not, ◌&&◌, ◌||◌, List, [], ◌∷◌, length, get_or, drop, eqb, leb, ltb}
 use Rattle.record.specs.Part.{part}
 use Rattle.record.specs.Rows.{row_at, keep, any}
 use Rattle.record.specs.Record.{online_width, log_width, page_of, owner_of, number_of, committed, body_of, on_page, well_formed, free}

@@ -1,9 +1,9 @@
 -- "The steps" of document 01, on lent tables that are sound and arguments that are in range: what each call does when it is not refused. docs/RULES.md 6 and 7.
-use Rattle.std.specs.Prelude.{ℕ, zero, suc, ◌+◌, ◌*◌, ◌-◌, ◌/◌, ◌%◌, Bool, true, false, cond, not, ◌&&◌, ◌||◌, List, [], ◌∷◌, ◌++◌, map, length, get_or, take, drop, set, replicate, eqb, leb}
+use Rattle.std.specs.Prelude.{ℕ, zero, suc, ◌+◌, ◌*◌, ◌-◌, ◌/◌, ◌%◌, Bool, cond, not, ◌&&◌, ◌||◌, List, [], ◌∷◌, ◌++◌, map, length, get_or, drop, set, replicate, eqb, leb}
 use Rattle.word.specs.Word.{num, put}
 use Rattle.record.specs.Part.{part, with_part}
-use Rattle.record.specs.Rows.{rows, table, cons_if, keep, any}
-use Rattle.record.specs.Record.{online_width, log_width, page_of, number_of, committed, body_of, apply, applied, row_of, entered, on_page, committed_on, owned_by, number_rows, lesser, smallest, greatest}
+use Rattle.record.specs.Rows.{table, cons_if, keep, any}
+use Rattle.record.specs.Record.{online_width, log_width, page_of, number_of, committed, body_of, apply, applied, entered, on_page, committed_on, owned_by, number_rows, lesser, smallest, greatest}
 use Rattle.order.specs.Order.{without, touched, frame_for}
 use Rattle.rules.specs.declared.Params.{Params}
 use Rattle.rules.specs.Lent.{Lent, last_at, closed_at, logged_at, fixed_of, lent_of, size_of, pages_of, frames_of, online_size_of, log_size_of, last_of, closed_of, logged_of, stamp_at, dirty_at, stamp_of, dirty_of, first_number_of, log_of, count_of, live_at, order_of, entry_at, entry_of, entries_of, online_of, in_frame, frame_of, is_dirty, clean_in, dirty_in, page_in, with_page, with_order, with_entries, with_count}

@@ -1,4 +1,4 @@
-use Rattle.std.proofs.Common.{◌-◌, refl, rules}
+use Rattle.std.proofs.Common.{refl, rules}
 use Rattle.record.specs.Record.{chosen}
 use Rattle.apply.proofs.Laws.{fold_turn, fold_done}
 use Rattle.apply.proofs.fold.Goals as goal

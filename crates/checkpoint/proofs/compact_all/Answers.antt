@@ -1,4 +1,3 @@
-use Prim.Native.Nat.{◌-◌}
 use native.Mathlib.Omega.{arith}
 use Rattle.checkpoint.proofs.Laws.{after_none, next_there, reads_fit, writes_fit, after_more, noted_more, after_last, same_lengths}
 use Rattle.checkpoint.proofs.compact_all.Goals as goal

@@ -1,4 +1,3 @@
-use Prim.Native.Nat.{◌-◌}
 use Rattle.record.specs.Record.{committed}
 use Rattle.table.proofs.Marks.{marked_start, marked_turn, marked_end}
 use borrow.Author.Rules.{rules}

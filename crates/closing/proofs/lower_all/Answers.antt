@@ -1,6 +1,4 @@
-use Prim.Native.Nat.{◌-◌}
 use mathlib.Core.Path.{refl}
-use Rattle.rules.specs.Steps.{lowered}
 use Rattle.closing.proofs.Laws.{lowered_none, lowered_turn, lowered_done}
 use borrow.Author.Rules.{rules}
 use Rattle.closing.proofs.lower_all.Goals as goal

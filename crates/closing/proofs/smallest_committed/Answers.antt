@@ -1,5 +1,3 @@
-use Prim.Native.Nat.{◌-◌}
-use Rattle.record.specs.Record.{smallest}
 use Rattle.closing.proofs.Laws.{smallest_none, smallest_turn, smallest_done}
 use borrow.Author.Rules.{rules}
 use Rattle.closing.proofs.smallest_committed.Goals as goal

@@ -1,5 +1,4 @@
-use Rattle.std.proofs.Common.{◌-◌, rules}
-use Rattle.rules.specs.Sound.{up_to}
+use Rattle.std.proofs.Common.{rules}
 use Rattle.durable.specs.Marks.{number_within}
 use Rattle.rules.proofs.Walks.{up_to_none, up_to_joins, up_to_joined}
 use Rattle.durable.proofs.Laws.{number_read}

@@ -1,5 +1,4 @@
-use Rattle.std.proofs.Common.{◌-◌, refl, ⊎_elim, rules}
-use Rattle.rules.specs.Sound.{zeros}
+use Rattle.std.proofs.Common.{refl, rules}
 use Rattle.durable.proofs.Laws.{most_new, most_kept, zeros_turn, zeros_done}
 use Rattle.durable.proofs.all_zero.Goals as goal
 use Rattle.durable.proofs.all_zero.Goals.{then-most-b, else-most-b}

@@ -1,6 +1,5 @@
-use Rattle.std.proofs.Common.{◌-◌, rules}
+use Rattle.std.proofs.Common.{rules}
 use Rattle.record.specs.Record.{well_formed}
-use Rattle.rules.specs.Sound.{every}
 use Rattle.rules.proofs.Walks.{every_none, every_fail, every_turn, every_done}
 use Rattle.std.proofs.Common.{ap}
 use mathlib.Core.Bool.{not}

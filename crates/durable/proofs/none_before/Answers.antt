@@ -1,5 +1,4 @@
-use Rattle.std.proofs.Common.{◌+◌, ◌-◌, arith, rules}
-use Rattle.rules.specs.Sound.{up_to}
+use Rattle.std.proofs.Common.{◌+◌, arith, rules}
 use Rattle.durable.specs.Marks.{dirty_from}
 use Rattle.rules.proofs.Walks.{up_to_none, up_to_joins, up_to_joined}
 use Rattle.durable.proofs.Laws.{dirty_read}

@@ -1,6 +1,4 @@
-use Prim.Native.Nat.{◌-◌}
 use mathlib.Core.Path.{refl}
-use mathlib.Core.List.{map}
 use borrow.Author.Rules.{rules}
 use Rattle.rules.specs.Steps.{freed}
 use Rattle.frames.proofs.Laws.{map_turn, map_done}

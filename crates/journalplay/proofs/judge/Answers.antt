@@ -1,9 +1,8 @@
 -- Each return is the case of `play_code` that its tests pick.
 use native.Mathlib.Omega.{arith}
 use mathlib.Core.Path.{sym, ap, ◌∙◌}
-use mathlib.Core.Bool.{false, not}
+use mathlib.Core.Bool.{not}
 use borrow.Author.Tests.{not-false}
-use Rattle.journal.specs.Layout.{is_size, whole_pages, is_header}
 use Rattle.journal.proofs.Laws.{header_tells}
 use Rattle.journal.proofs.Tells.{size_range}
 use Rattle.journalplay.proofs.Judges.{said_26, said_27, said_29, said_30, said_go}

@@ -1,10 +1,8 @@
 -- Each return is the case of `write_code` that its tests pick.
 use native.Mathlib.Omega.{arith}
 use mathlib.Core.Path.{sym, ap, ◌∙◌}
-use mathlib.Core.Bool.{false, not}
+use mathlib.Core.Bool.{not}
 use lib.ListN.{length}
-use Rattle.journal.specs.Layout.{is_size, is_sector, whole_pages}
-use Rattle.journal.specs.Writing.{any_past}
 use Rattle.journalwrite.proofs.Lists.{code_20, code_26, code_27, code_14, code_15, code_0, sizes, same_tests}
 use Rattle.journalwrite.proofs.code_of.Goals as goal
 

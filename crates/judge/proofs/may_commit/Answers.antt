@@ -1,9 +1,8 @@
 -- `judge::may_commit` meets its contract: each return is the first of `commit_refusals` that holds, or none.
-use mathlib.Core.Path.{◌≡◌, refl, ap, sym, ◌∙◌}
+use mathlib.Core.Path.{refl, ap, sym, ◌∙◌}
 use mathlib.Core.Bool.{not}
-use native.Mathlib.Omega.{arith}
 use borrow.Author.Rules.{rules}
-use borrow.Author.Tests.{lt-ltb, le-ltb, le-leb, lt-leb}
+use borrow.Author.Tests.{lt-ltb, le-ltb}
 use Rattle.rules.specs.Calls.{verdict_of, commit_refusals}
 use Rattle.rules.proofs.Verdicts.{refused, passed, number_most}
 use Rattle.judge.proofs.Laws.{turned}

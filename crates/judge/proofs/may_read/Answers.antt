@@ -1,7 +1,6 @@
 -- `judge::may_read` meets its contract: each return is the first of `read_refusals` that holds, or none.
-use mathlib.Core.Path.{◌≡◌, refl, ap, sym, ◌∙◌}
+use mathlib.Core.Path.{refl, ap, sym, ◌∙◌}
 use mathlib.Core.Bool.{not}
-use native.Mathlib.Omega.{arith}
 use borrow.Author.Rules.{rules}
 use borrow.Author.Tests.{lt-ltb, le-ltb, le-leb, lt-leb}
 use Rattle.rules.specs.Calls.{verdict_of, read_refusals}

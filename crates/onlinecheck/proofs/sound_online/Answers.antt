@@ -1,5 +1,4 @@
 -- `onlinecheck::sound_online` meets its contract: the rows' clauses, then the others.
-use Rattle.word.proofs.Tests.{so}
 use borrow.Author.Rules.{rules}
 use Prim.Native.Nat.{◌+◌, ◌*◌, ◌-◌}
 use lib.ListN.{drop}

@@ -1,7 +1,6 @@
-use Prim.Native.Nat.{ℕ, ◌-◌}
+use Prim.Native.Nat.{ℕ}
 use mathlib.Core.Path.{refl}
 use lib.Dec.{ltb}
-use Rattle.rules.specs.Sound.{every}
 use Rattle.pagetable.proofs.Loops.{every_turn, every_done}
 use borrow.Author.Rules.{rules}
 use Rattle.pagetable.proofs.all_below.Goals as goal

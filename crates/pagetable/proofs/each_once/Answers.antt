@@ -1,10 +1,9 @@
-use Prim.Native.Nat.{ℕ, ◌+◌, ◌-◌}
+use Prim.Native.Nat.{ℕ, ◌+◌}
 use mathlib.Core.Path.{refl, ap}
 use mathlib.Core.Bool.{not}
 use lib.ListN.{get_or}
 use lib.Dec.{leb}
 use borrow.Author.Tests.{le-leb, lt-leb}
-use Rattle.rules.specs.Sound.{up_to}
 use Rattle.rules.proofs.Walks.{up_to_none, up_to_fail, up_to_turn, up_to_done}
 use borrow.Author.Rules.{rules}
 use Rattle.pagetable.proofs.each_once.Goals as goal

@@ -1,4 +1,3 @@
-use Prim.Native.Nat.{◌-◌}
 use native.Mathlib.Omega.{arith}
 use mathlib.Core.Bool.{false}
 use Rattle.pagetable.proofs.Loops.{tally_none, tally_turn, tally_room, tally_done}

@@ -1,7 +1,5 @@
-use Prim.Native.Nat.{◌-◌}
 use native.Mathlib.Omega.{arith}
 use mathlib.Core.Bool.{true}
-use mathlib.Core.Logic.{⊎_elim}
 use Rattle.pagetable.proofs.Loops.{tally_none, tally_turn, tally_pass, tally_room, tally_done}
 use borrow.Author.Rules.{rules}
 use Rattle.pagetable.proofs.tally_served.Goals as goal

@@ -1,6 +1,4 @@
-use Prim.Native.Nat.{◌-◌}
 use native.Mathlib.Omega.{arith}
-use mathlib.Core.Logic.{⊎_elim}
 use borrow.Author.Rules.{rules}
 use Rattle.restart.proofs.Laws.{count_start, count_more, count_same, count_done}
 use Rattle.restart.proofs.count_rows.Goals as goal

@@ -1,4 +1,3 @@
-use Prim.Native.Nat.{◌-◌}
 use native.Mathlib.Omega.{arith}
 use Rattle.restart.proofs.Turns.{enter_none, enter_room, enter_turn, enter_done}
 use Rattle.restart.proofs.enter_rows.Goals as goal

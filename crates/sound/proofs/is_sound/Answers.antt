@@ -1,6 +1,5 @@
 -- `sound::is_sound` meets its contract: the lost part is looked at only where the durable part is sound.
 use mathlib.Core.Path.{sym, ◌∙◌}
-use Rattle.word.proofs.Tests.{so}
 use Rattle.rules.specs.Sound.{sound}
 use Rattle.sound.proofs.Laws.{and_refused, and_kept}
 use Rattle.std.proofs.Common.{ap}

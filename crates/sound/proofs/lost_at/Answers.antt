@@ -1,7 +1,5 @@
 -- `sound::lost_at` meets its contract: the second test is asked only where the first held.
-use Rattle.word.proofs.Tests.{so}
 use native.Mathlib.Omega.{arith}
-use mathlib.Core.Bool.{true}
 use Rattle.pagetable.proofs.Laws.{count_within}
 use Rattle.sound.proofs.Laws.{and_refused, and_kept}
 use Rattle.std.proofs.Common.{ap}

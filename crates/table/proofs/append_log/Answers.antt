@@ -1,4 +1,3 @@
-use Prim.Native.Nat.{◌-◌}
 use native.Mathlib.Omega.{arith}
 use Rattle.table.proofs.Turns.{log_none, log_room, log_more, log_all}
 use Rattle.table.proofs.append_log.Goals as goal

@@ -1,4 +1,4 @@
-use Prim.Native.Nat.{◌*◌, ◌-◌}
+use Prim.Native.Nat.{◌*◌}
 use native.Mathlib.Omega.{arith}
 use Rattle.table.proofs.Moves.{lent_length}
 use Rattle.table.proofs.Turns.{number_none, number_more, number_all}

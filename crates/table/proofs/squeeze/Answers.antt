@@ -1,4 +1,3 @@
-use Prim.Native.Nat.{◌-◌}
 use Rattle.table.proofs.Turns.{squeeze_start, squeeze_more, squeeze_all}
 use Rattle.table.proofs.squeeze.Goals as goal
 

@@ -1,4 +1,3 @@
-use Prim.Native.Nat.{◌-◌}
 use mathlib.Core.Path.{refl}
 use Rattle.table.proofs.Surveys.{survey_none, survey_more, survey_all}
 use Rattle.table.proofs.survey.Goals as goal

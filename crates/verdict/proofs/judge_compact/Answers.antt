@@ -1,6 +1,6 @@
 -- `verdict::judge_compact` meets its contract: the check first, then the call's own refusals.
 use borrow.Author.Tests.{not-false}
-use mathlib.Core.Bool.{false, not}
+use mathlib.Core.Bool.{not}
 use Rattle.rules.specs.Areas.{areas}
 use Rattle.rules.specs.Sound.{sound}
 use Rattle.rules.specs.Calls.{verdict_of, judge_compact}

@@ -1,7 +1,7 @@
 -- `verdict::judge_restart` meets its contract: the check first, then the call's own refusals.
 use Prim.Native.Nat.{ℕ, ◌<◌, ◌≤◌}
 use mathlib.Core.Path.{refl, subst₂}
-use mathlib.Core.Bool.{true, false, not}
+use mathlib.Core.Bool.{not}
 use borrow.Author.Tests.{lt-ltb, le-ltb, not-false}
 use Rattle.rules.specs.Areas.{areas}
 use Rattle.rules.specs.Sound.{sound_durable}

@@ -1,4 +1,4 @@
-use Rattle.std.proofs.Common.{◌-◌, rules}
+use Rattle.std.proofs.Common.{rules}
 use Rattle.wal.proofs.Laws.{sum_none, sum_turn, sum_done}
 use Rattle.wal.proofs.sum.Goals as goal
 

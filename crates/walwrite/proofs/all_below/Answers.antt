@@ -1,4 +1,3 @@
-use Prim.Native.Nat.{◌-◌}
 use mathlib.Core.Path.{refl}
 use Rattle.walwrite.proofs.Laws.{below_turn, below_stop, below_done}
 use borrow.Author.Rules.{rules}

@@ -1,4 +1,3 @@
-use Prim.Native.Nat.{◌-◌}
 use mathlib.Core.Path.{refl}
 use Rattle.walwrite.proofs.Laws.{fold_start, fold_more, fold_end}
 use borrow.Author.Rules.{rules}

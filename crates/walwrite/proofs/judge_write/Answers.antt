@@ -1,8 +1,6 @@
 use native.Mathlib.Omega.{arith}
 use mathlib.Core.Path.{ap, ◌∙◌}
-use Rattle.word.proofs.Tests.{so}
 use Rattle.rules.specs.Lent.{lent_of}
-use Rattle.rules.specs.Sound.{sound}
 use Rattle.sound.proofs.Laws.{sound_shaped}
 use Rattle.walwrite.specs.Write.{may_write}
 use Rattle.walwrite.proofs.Laws.{judge_unsound, judge_sound}

@@ -1,4 +1,3 @@
-use Prim.Native.Nat.{◌-◌}
 use mathlib.Core.Path.{refl}
 use Rattle.walwrite.proofs.Laws.{scan_turn}
 use borrow.Author.Rules.{rules}

@@ -1,10 +1,8 @@
 -- `ventarico_wal_write` keeps its promise: refused as `judge_write` says, else the log that `log_of` says.
 use native.Mathlib.Omega.{arith}
-use mathlib.Core.Path.{sym, ap, ◌∙◌}
+use mathlib.Core.Path.{sym, ◌∙◌}
 use Rattle.rules.specs.Lent.{lent_of}
 use Rattle.sound.proofs.Laws.{sound_shaped}
-use Rattle.walwrite.specs.declared.Ruling.TheVariants.{Go}
-use Rattle.walwrite.specs.Write.{judge_write}
 use Rattle.walwrite.proofs.Laws.{judged_go, go_parts, write_asks, write_refused, write_done}
 use Rattle.walwrite.proofs.ventarico_wal_write.Goals as goal
 

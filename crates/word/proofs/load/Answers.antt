@@ -2,7 +2,6 @@ use Prim.Native.Nat.{ℕ, ◌+◌, ◌*◌, ◌-◌}
 use native.Mathlib.Omega.{arith}
 use mathlib.Core.Path.{◌≡◌, ap, ◌∙◌}
 use borrow.Author.Rules.{rules}
-use Rattle.word.specs.Word.{num}
 use Rattle.word.proofs.Laws.{num_turn, below_turn, below_seven, num_none, load_done}
 use Rattle.word.proofs.load.Goals as goal
 

@@ -1,7 +1,5 @@
-use Prim.Native.Nat.{◌-◌}
 use mathlib.Core.Path.{refl, sym, ◌∙◌}
 use borrow.Author.Rules.{rules}
-use Rattle.word.specs.Word.{put}
 use Rattle.word.proofs.Laws.{put_turn, store_done, put_none}
 use Rattle.word.proofs.store.Goals as goal
 

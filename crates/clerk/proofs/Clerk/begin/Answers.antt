@@ -1,5 +1,4 @@
 -- `Clerk::begin` meets its contract: each return is the case of `begins` that its tests pick.
-use mathlib.Core.Bool.{not}
 use borrow.Author.Tests.{eq-eqb, ne_eqb}
 use Rattle.clerk.proofs.Laws.{too_low, too_high, number_in_range, begins_not, begins_live, begins_done}
 use Rattle.clerk.proofs.Clerk.begin.Goals as goal

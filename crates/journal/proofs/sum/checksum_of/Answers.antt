@@ -1,4 +1,4 @@
-use Rattle.std.proofs.Common.{◌-◌, refl, rules}
+use Rattle.std.proofs.Common.{refl, rules}
 use Rattle.journal.specs.Layout.{checksum}
 use Rattle.journal.proofs.Laws.{sum_turn, sum_done}
 use Rattle.journal.proofs.sum.checksum_of.Goals as goal

@@ -1,4 +1,3 @@
-use Prim.Native.Nat.{◌-◌}
 use mathlib.Core.Path.{sym, ◌∙◌}
 use Rattle.journalplay.proofs.Looks.{ahead_none, ahead_turn, seen_end, seen_fault, seen_outside, fault_whole}
 use Rattle.journalplay.proofs.look.look.Goals as goal

@@ -1,4 +1,3 @@
-use Prim.Native.Nat.{◌-◌}
 use native.Mathlib.Omega.{arith}
 use Rattle.journalplay.proofs.Restores.{left_all, left_none, left_whole, left_inside, left_turn}
 use Rattle.journalplay.proofs.restore.restore.Goals as goal

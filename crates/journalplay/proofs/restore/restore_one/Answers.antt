@@ -1,5 +1,4 @@
 -- The page's place is within the lent pages, and the part lent to `copy` comes back as the record's image.
-use Prim.Native.Nat.{◌-◌}
 use native.Mathlib.Omega.{arith}
 use Rattle.journalplay.proofs.Restores.{spot, written_one}
 use Rattle.journalplay.proofs.restore.restore_one.Goals as goal

@@ -1,4 +1,4 @@
-use Prim.Native.Nat.{◌*◌, ◌-◌}
+use Prim.Native.Nat.{◌*◌}
 use native.Mathlib.Omega.{arith}
 use Rattle.record.specs.Rows.{row_at, rows, keep}
 use Rattle.record.specs.Record.{page_of}

@@ -2,7 +2,6 @@ use borrow.Author.Rules.{rules}
 use Prim.Native.Nat.{ℕ, ◌-◌}
 use native.Mathlib.Omega.{arith}
 use mathlib.Core.Path.{◌≡◌}
-use mathlib.Core.Bool.{true}
 use Rattle.onlinecheck.proofs.Laws.{one_none, one_committed, one_owned, one_done}
 use Rattle.onlinecheck.proofs.apart.one_owner.Goals as goal
 

@@ -1,5 +1,4 @@
 use borrow.Author.Tests.{not-true, not-false}
-use Prim.Native.Nat.{◌-◌}
 use native.Mathlib.Omega.{arith}
 use mathlib.Core.Path.{sym}
 use Rattle.onlinecheck.proofs.Bytes.{pass_done}

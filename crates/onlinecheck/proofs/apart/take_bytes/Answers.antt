@@ -1,5 +1,4 @@
 use borrow.Author.Rules.{rules}
-use Prim.Native.Nat.{◌-◌}
 use Rattle.onlinecheck.proofs.Bytes.{take_none, take_fail, take_turn, take_done}
 use Rattle.onlinecheck.proofs.apart.take_bytes.Goals as goal
 

@@ -1,7 +1,6 @@
 use borrow.Author.Rules.{rules}
-use Prim.Native.Nat.{◌+◌, ◌-◌}
+use Prim.Native.Nat.{◌+◌}
 use Rattle.record.specs.Part.{part}
-use Rattle.rules.specs.Sound.{up_to}
 use Rattle.onlinecheck.specs.Marks.{entry_marked}
 use Rattle.rules.proofs.Walks.{up_to_none, up_to_joins, up_to_joined}
 use Rattle.onlinecheck.proofs.dirty.all_marked.Goals as goal

@@ -1,6 +1,5 @@
 use borrow.Author.Rules.{rules}
 use Prim.Native.Nat.{◌+◌, ◌-◌}
-use Rattle.rules.specs.Sound.{every}
 use Rattle.onlinecheck.specs.Online.{row_test}
 use Rattle.rules.proofs.Walks.{every_none, every_fail, every_turn, every_done}
 use Rattle.std.proofs.Common.{ap}

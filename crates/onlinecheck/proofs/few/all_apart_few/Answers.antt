@@ -1,6 +1,5 @@
 use borrow.Author.Rules.{rules}
-use Prim.Native.Nat.{◌-◌}
-use Rattle.rules.specs.Sound.{pairs, apart}
+use Rattle.rules.specs.Sound.{apart}
 use Rattle.rules.proofs.Walks.{pairs_none, pairs_fail, pairs_turn, pairs_done}
 use Rattle.std.proofs.Common.{ap}
 use mathlib.Core.Bool.{not}

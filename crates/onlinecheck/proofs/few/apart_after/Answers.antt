@@ -2,7 +2,7 @@ use borrow.Author.Rules.{rules}
 use Prim.Native.Nat.{◌+◌, ◌-◌}
 use mathlib.Core.Path.{refl}
 use Rattle.record.specs.Rows.{row_at, rows}
-use Rattle.rules.specs.Sound.{every, apart}
+use Rattle.rules.specs.Sound.{apart}
 use Rattle.rules.proofs.Walks.{every_fail, every_turn, every_done}
 use Rattle.onlinecheck.proofs.Laws.{apart_all}
 use Rattle.std.proofs.Common.{ap}

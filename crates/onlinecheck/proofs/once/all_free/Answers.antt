@@ -1,5 +1,4 @@
 use borrow.Author.Rules.{rules}
-use Prim.Native.Nat.{◌-◌}
 use Rattle.onlinecheck.specs.Marks.{slotted}
 use Rattle.onlinecheck.proofs.Rows.{every_at}
 use Rattle.onlinecheck.proofs.Marks.{free_none, free_fail, free_turn, free_done}

@@ -1,8 +1,7 @@
-use Prim.Native.Nat.{◌<◌, ◌-◌}
+use Prim.Native.Nat.{◌<◌}
 use native.Mathlib.Omega.{arith}
 use mathlib.Core.Path.{◌≡◌, sym, ◌∙◌}
 use mathlib.Core.Bool.{true, false}
-use borrow.Author.Tests.{not-true, not-false}
 use borrow.Author.Rules.{rules}
 use Rattle.order.specs.Order.{named}
 use Rattle.order.specs.Meant.{list_of}

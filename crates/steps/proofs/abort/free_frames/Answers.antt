@@ -1,4 +1,3 @@
-use Prim.Native.Nat.{◌-◌}
 use Rattle.order.specs.Meant.{list_of}
 use Rattle.steps.proofs.Laws.{freed_start, freed_turn, freed_end}
 use borrow.Author.Rules.{rules}

@@ -1,4 +1,3 @@
-use Prim.Native.Nat.{◌-◌}
 use mathlib.Core.Bool.{true}
 use Rattle.record.specs.Rows.{rows, keep}
 use Rattle.table.specs.Stays.{stays}

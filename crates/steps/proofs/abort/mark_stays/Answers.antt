@@ -1,4 +1,3 @@
-use Prim.Native.Nat.{◌-◌}
 use mathlib.Core.Bool.{true}
 use Rattle.table.specs.Stays.{stays}
 use Rattle.table.proofs.Marks.{marked_start, marked_turn, marked_end}

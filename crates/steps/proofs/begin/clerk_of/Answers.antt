@@ -1,4 +1,3 @@
-use Prim.Native.Nat.{◌-◌}
 use mathlib.Core.Path.{refl}
 use Rattle.steps.proofs.Laws.{live_turn, live_done}
 use borrow.Author.Rules.{rules}

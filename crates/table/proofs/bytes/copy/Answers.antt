@@ -1,4 +1,3 @@
-use Prim.Native.Nat.{◌-◌}
 use mathlib.Core.Path.{refl}
 use Rattle.table.proofs.Moves.{copy_turn, copy_end}
 use borrow.Author.Rules.{rules}

@@ -1,9 +1,8 @@
 -- `ventarico_abort` keeps its promise: refused as `judge_abort` says, else done as `aborted` says.
 use Rattle.rules.specs.Areas.{areas}
-use Rattle.rules.specs.declared.Verdict.TheVariants.{Go, Refuse}
 use mathlib.Core.Path.{refl, sym, ◌∙◌}
 use native.Mathlib.Omega.{arith}
-use Rattle.rules.specs.Calls.{judge_abort, abort_call}
+use Rattle.rules.specs.Calls.{abort_call}
 use Rattle.rules.specs.Steps.{aborted}
 use Rattle.sound.proofs.Laws.{sound_shaped}
 use Rattle.rules.proofs.Verdicts.{number_most}

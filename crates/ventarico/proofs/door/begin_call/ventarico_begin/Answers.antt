@@ -1,8 +1,7 @@
 -- `ventarico_begin` keeps its promise: refused as `judge_begin` says, else done as `begun` says.
 use Rattle.rules.specs.Areas.{areas}
-use Rattle.rules.specs.declared.Verdict.TheVariants.{Go, Refuse}
 use mathlib.Core.Path.{refl, sym, ◌∙◌}
-use Rattle.rules.specs.Calls.{judge_begin, begin_call}
+use Rattle.rules.specs.Calls.{begin_call}
 use Rattle.rules.specs.Steps.{begun}
 use Rattle.sound.proofs.Laws.{sound_shaped}
 use Rattle.rules.proofs.Went.{begin_went}

@@ -1,8 +1,7 @@
 -- `ventarico_checkpoint` keeps its promise: refused as `judge_checkpoint` says, else done as `checkpointed` says.
 use Rattle.rules.specs.Areas.{areas}
-use Rattle.rules.specs.declared.Verdict.TheVariants.{Go, Refuse}
 use mathlib.Core.Path.{refl, sym, ◌∙◌}
-use Rattle.rules.specs.Calls.{judge_checkpoint, checkpoint_call}
+use Rattle.rules.specs.Calls.{checkpoint_call}
 use Rattle.rules.specs.Steps.{checkpointed}
 use Rattle.checkpoint.proofs.Laws.{checkpoint_logs}
 use Rattle.sound.proofs.Laws.{sound_shaped, sound_logged}

@@ -1,8 +1,7 @@
 -- `ventarico_close` keeps its promise: refused as `judge_close` says, else done as `closed` says.
 use Rattle.rules.specs.Areas.{areas}
-use Rattle.rules.specs.declared.Verdict.TheVariants.{Go, Refuse}
 use mathlib.Core.Path.{refl, sym, ◌∙◌}
-use Rattle.rules.specs.Calls.{judge_close, close_call}
+use Rattle.rules.specs.Calls.{close_call}
 use Rattle.rules.specs.Steps.{closed}
 use Rattle.sound.proofs.Laws.{sound_shaped, sound_logged}
 use Rattle.rules.proofs.Went.{close_went}

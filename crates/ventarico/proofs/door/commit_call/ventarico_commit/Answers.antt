@@ -1,9 +1,8 @@
 -- `ventarico_commit` keeps its promise: refused as `judge_commit` says, else done as `committing` says.
 use Rattle.rules.specs.Areas.{areas}
-use Rattle.rules.specs.declared.Verdict.TheVariants.{Go, Refuse}
 use mathlib.Core.Path.{refl, sym, ◌∙◌}
 use native.Mathlib.Omega.{arith}
-use Rattle.rules.specs.Calls.{judge_commit, commit_call}
+use Rattle.rules.specs.Calls.{commit_call}
 use Rattle.rules.specs.Steps.{committing}
 use Rattle.sound.proofs.Laws.{sound_shaped}
 use Rattle.rules.proofs.Verdicts.{number_most, number_least}

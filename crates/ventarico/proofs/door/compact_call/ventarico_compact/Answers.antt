@@ -1,8 +1,7 @@
 -- `ventarico_compact` keeps its promise: refused as `judge_compact` says, else not due, or compacted.
 use Rattle.rules.specs.Areas.{areas}
-use Rattle.rules.specs.declared.Verdict.TheVariants.{Go, Refuse}
 use mathlib.Core.Path.{refl, sym, ◌∙◌}
-use Rattle.rules.specs.Calls.{judge_compact, compact_call}
+use Rattle.rules.specs.Calls.{compact_call}
 use Rattle.rules.specs.Steps.{compact_step, compacted}
 use Rattle.sound.proofs.Laws.{sound_shaped}
 use Rattle.rules.proofs.Went.{compact_went}

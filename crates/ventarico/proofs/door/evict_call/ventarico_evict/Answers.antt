@@ -1,8 +1,7 @@
 -- `ventarico_evict` keeps its promise: refused as `judge_evict` says, else done as `evicted` says.
 use Rattle.rules.specs.Areas.{areas}
-use Rattle.rules.specs.declared.Verdict.TheVariants.{Go, Refuse}
 use mathlib.Core.Path.{refl, sym, ◌∙◌}
-use Rattle.rules.specs.Calls.{judge_evict, evict_call}
+use Rattle.rules.specs.Calls.{evict_call}
 use Rattle.rules.specs.Steps.{evicted}
 use Rattle.sound.proofs.Laws.{sound_shaped}
 use Rattle.rules.proofs.Went.{evict_went}

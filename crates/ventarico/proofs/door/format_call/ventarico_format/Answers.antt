@@ -1,10 +1,9 @@
 -- `ventarico_format` keeps its promise: refused as `judge_format` says, else done as `formatted` says.
 use Rattle.rules.specs.Lent.{given}
 use Rattle.rules.specs.Areas.{areas}
-use Rattle.rules.specs.declared.Verdict.TheVariants.{Go, Refuse}
 use mathlib.Core.Path.{refl, sym, ◌∙◌}
 use mathlib.Core.Bool.{true}
-use Rattle.rules.specs.Calls.{judge_format, format_call}
+use Rattle.rules.specs.Calls.{format_call}
 use Rattle.rules.specs.Steps.{formatted}
 use Rattle.rules.proofs.Ranges.{ranged, lengths_marks}
 use Rattle.rules.proofs.Went.{format_went}

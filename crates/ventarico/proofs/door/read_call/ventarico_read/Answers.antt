@@ -1,9 +1,8 @@
 -- `ventarico_read` keeps its promise: refused as `judge_read` says, else done as `read_step` says.
 use Rattle.rules.specs.Areas.{areas}
-use Rattle.rules.specs.declared.Verdict.TheVariants.{Go, Refuse}
 use mathlib.Core.Path.{refl, sym, ◌∙◌}
 use lib.ListN.{length}
-use Rattle.rules.specs.Calls.{judge_read, read_call}
+use Rattle.rules.specs.Calls.{read_call}
 use Rattle.rules.specs.Steps.{read_step}
 use Rattle.sound.proofs.Laws.{sound_shaped}
 use Rattle.rules.proofs.Went.{read_went}

@@ -1,8 +1,7 @@
 -- `ventarico_restart` keeps its promise: refused as `judge_restart` says, else done as `restarted` says.
 use Rattle.rules.specs.Areas.{areas}
-use Rattle.rules.specs.declared.Verdict.TheVariants.{Go, Refuse}
 use mathlib.Core.Path.{refl, sym, ◌∙◌}
-use Rattle.rules.specs.Calls.{judge_restart, restart_call}
+use Rattle.rules.specs.Calls.{restart_call}
 use Rattle.rules.specs.Steps.{restarted}
 use Rattle.rules.proofs.Ranges.{durable_sized, durable_logged, durable_log_records}
 use Rattle.rules.proofs.Went.{restart_went}

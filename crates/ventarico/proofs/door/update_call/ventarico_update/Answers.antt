@@ -1,9 +1,8 @@
 -- `ventarico_update` keeps its promise: refused as `judge_update` says, else done as `updated` says.
 use Rattle.rules.specs.Areas.{areas}
-use Rattle.rules.specs.declared.Verdict.TheVariants.{Go, Refuse}
 use mathlib.Core.Path.{refl, sym, ◌∙◌}
 use native.Mathlib.Omega.{arith}
-use Rattle.rules.specs.Calls.{judge_update, update_call}
+use Rattle.rules.specs.Calls.{update_call}
 use Rattle.rules.specs.Steps.{updated}
 use Rattle.sound.proofs.Laws.{sound_shaped}
 use Rattle.rules.proofs.Verdicts.{number_most}
