@@ -1,5 +1,5 @@
 -- Laws of numbers highest byte first, of the checksum, of the sizes and of the header's test.
-use Rattle.std.proofs.Common.{◌≡◌, ℕ, suc, ◌+◌, ◌-◌, ◌*◌, ◌/◌, ◌%◌, ◌^◌, ◌<◌, ◌≤◌, Bool, true, false, ◌&&◌, eqb, leb, List, [], ◌∷◌, ◌++◌, length, get_or, take, drop, set, sym, refl, ap, ◌∙◌, append_assoc, append-nil, arith, drop_of_length-le, get_or-drop, take_all, drop-drop, eq-eqb, eqb-true, le-leb, leb-true}
+use Rattle.std.proofs.Common.{◌≡◌, ℕ, suc, ◌+◌, ◌-◌, ◌*◌, ◌/◌, ◌%◌, ◌^◌, ◌<◌, ◌≤◌, Bool, true, false, ◌&&◌, eqb, leb, List, [], ◌∷◌, ◌++◌, length, get_or, take, drop, set, sym, refl, ap, ◌∙◌, append_assoc, arith, get_or-drop, drop-drop, eq-eqb, eqb-true, le-leb, leb-true}
 use native.Mathlib.Nat.{div-div-eq-div-mul}
 use lib.Seq.{sets-eq}
 use borrow.Author.Tests.{lt-leb}
@@ -44,13 +44,6 @@ big_drop at k l =
 
 pub big_at : (at : ℕ) (l : List ℕ) → big (drop at l) 0 ≡ big l at
 big_at at l = let e : at + 0 ≡ at = omega arith in big_drop at 0 l ∙ ap (λ (x : ℕ). big l x) e
-
--- bytes copied over as many
-pub copied : (s d ys : List ℕ) → length d ≡ length s → ys ≡ take (length s) s ++ drop (length s) d → ys ≡ s
-copied s d ys h e =
-    let a : length s ≤ length s = omega arith in
-    let b : length d ≤ length s = omega arith in
-    e ∙ rw (take_all (length s) s a, drop_of_length-le d b) (append-nil s)
 
 -- `sum::checksum_of`: a turn, and none left
 pub sum_turn : (page : List ℕ) (sum sum' at b : ℕ) (total : ℕ) → 200 < at → b ≡ get_or page (at - 200) 0 → sum' ≡ (sum + b) % 2 ^ 32
