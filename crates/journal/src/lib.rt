@@ -4,6 +4,7 @@
 
 pub mod big;
 pub mod head;
+pub mod part;
 pub mod sum;
 
 // An answer as C has it.

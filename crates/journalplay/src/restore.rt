@@ -13,7 +13,7 @@ fn restore_one(body: &[u8], at: usize, size: usize, pages: &mut [u8])
     let e = to + size;
     let from = at + 4;
     let f = from + size;
-    pages[to..e].copy_from_slice(&body[from..f]);
+    journal::part::copy(&body[from..f], &mut pages[to..e]);
 }
 
 // The pages of the first k records, in their order.

@@ -20,7 +20,7 @@ fn put_first(target: &mut [u8])
     ensures { target.new ≡ first_bytes ++ drop 8 target.old }
 {
     let first = journal::head::first_bytes();
-    target[..8].copy_from_slice(&first);
+    journal::part::copy(&first, &mut target[..8]);
 }
 
 // The header's 28 bytes.
@@ -54,6 +54,6 @@ pub fn put_record(target: &mut [u8], at: usize, number: u32, page: &[u8], nonce:
     journal::big::store(target, at, number);
     let from = at + 4;
     let e = from + page.len();
-    target[from..e].copy_from_slice(page);
+    journal::part::copy(page, &mut target[from..e]);
     journal::big::store(target, e, journal::sum::checksum_of(page, nonce));
 }

@@ -12,10 +12,10 @@ overflow_mul-to c = omega (arith, ((spot c.load-number.result c.args.at c.args.s
 pub overflow_add-e : goal.overflow_add-e
 overflow_add-e c = omega (arith, ((spot c.load-number.result c.args.at c.args.size c.args.body.now c.args.pages.now c.load-number.ensures c.requires.1 c.requires.2)).1)
 
-pub slice_bounds-copy_from_slice-end : goal.slice_bounds-copy_from_slice-end
-slice_bounds-copy_from_slice-end c = omega (arith, (spot c.load-number.result c.args.at c.args.size c.args.body.now c.args.pages.now c.load-number.ensures c.requires.1 c.requires.2).1)
+pub slice_bounds-copy-end-2 : goal.slice_bounds-copy-end-2
+slice_bounds-copy-end-2 c = omega (arith, (spot c.load-number.result c.args.at c.args.size c.args.body.now c.args.pages.now c.load-number.ensures c.requires.1 c.requires.2).1)
 
 pub returns : goal.returns
 returns c =
     let k = c.load-number in
-    written_one k.result c.args.at c.args.size c.args.body.now c.args.pages.now k.ensures c.requires.1 c.requires.2 _ c.requires.0 c.copy_from_slice.ensures.after
+    written_one k.result c.args.at c.args.size c.args.body.now c.args.pages.now k.ensures c.requires.1 c.requires.2 _ c.requires.0 c.copy.ensures

@@ -3,8 +3,8 @@ use native.Mathlib.Omega.{arith}
 use Rattle.journalwrite.proofs.Fills.{firsts, firsts_fit}
 use Rattle.journalwrite.proofs.fill.put_first.Goals as goal
 
-pub copy_from_slice-requires : goal.copy_from_slice-requires
-copy_from_slice-requires c = omega (arith, firsts_fit _ c.args.target.now c.requires c.first_bytes-first.ensures)
+pub copy-requires : goal.copy-requires
+copy-requires c = omega (arith, firsts_fit _ c.args.target.now c.requires c.first_bytes-first.ensures)
 
 pub returns : goal.returns
-returns c = firsts _ c.args.target.now _ c.first_bytes-first.ensures c.copy_from_slice.ensures.after
+returns c = firsts _ c.args.target.now _ c.first_bytes-first.ensures c.copy.ensures

@@ -6,4 +6,4 @@ use Rattle.journalwrite.proofs.fill.put_record.Goals as goal
 pub returns : goal.returns
 returns c =
     let a = c.args in
-    record_put a.at a.number a.nonce c.checksum_of.result a.page.now a.target.now _ _ _ _ c.requires c.store.ensures c.copy_from_slice.ensures.after refl c.checksum_of.ensures c.store-2.ensures
+    record_put a.at a.number a.nonce c.checksum_of.result a.page.now a.target.now _ _ _ _ c.requires c.store.ensures c.copy.ensures refl c.checksum_of.ensures c.store-2.ensures
