@@ -33,6 +33,7 @@ fn is_outside(body: &[u8], at: usize, pages: usize) -> bool
 }
 
 // How far the first n records of the body go.
+#[tactic(auto, using(crate::proofs::Looks::seen_fault, crate::proofs::Looks::seen_outside, crate::proofs::Looks::ahead_turn, crate::proofs::Looks::fault_whole))]
 fn look(body: &[u8], n: usize, nonce: u32, size: usize, pages: usize) -> Looked
     requires { size ≤ 4096 }
     ensures { Seen n nonce size pages body.now result }

@@ -190,7 +190,8 @@ pub fn may_read(
     if size < offset as usize + w as usize {
         return Verdict::Refuse(Refusal::Argument(Bad::Place));
     }
-    if room < w as usize {
+    let short = room < w as usize;
+    if short {
         return Verdict::Refuse(Refusal::ShortBuffer);
     }
     if !is_live(tables, x) {

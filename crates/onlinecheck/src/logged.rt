@@ -20,6 +20,7 @@ fn same_row(t: &[u8], i: usize, log: &[u8], j: usize) -> bool
         & (word::load(t, a + record::VALUE_AT, 8) == word::load(log, b + record::VALUE_AT, 8))
 }
 
+#[tactic(auto, using(crate::proofs::Laws::log_free, crate::proofs::Laws::log_before, crate::proofs::Laws::log_row))]
 pub fn is_logged(t: &[u8], i: usize, log: &[u8], n: usize, last: u64) -> bool
     requires { (i * online_width + online_width ≤ length t.now) × (n * log_width ≤ length log.now) × (n ≤ last) × (last < 4294967296) × (number_of (row_at online_width t.now i) ≤ last) }
     ensures { result ≡ in_log log.now (last - n + 1) (row_at online_width t.now i) }

@@ -60,7 +60,8 @@ fn each_once(served: &[u16; 256], frames: usize) -> bool
 {
     let mut f = 0;
     while f < frames {
-        if 1 < served[f + 1] {
+        let twice = 1 < served[f + 1];
+        if twice {
             return false;
         }
         f += 1;

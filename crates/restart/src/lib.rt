@@ -15,6 +15,7 @@ use number::LogNo;
 
 // Log row i, numbered k, enters: it is above its page's stamp and, at or below the checkpoint number, its page has a dirty number.
 // Numbers ascend through the log, so that the branch on the checkpoint number is foretold well; one on a stamp would not be.
+#[tactic(auto, using(crate::proofs::Laws::enters_new, crate::proofs::Laws::enters_old))]
 fn enters_row(marks: &[u8], log: &[u8], i: usize, k: u64, pages: usize) -> bool
     requires { (length marks.now ≡ marks_length pages) × (pages ≤ 1024) × (i * log_width + log_width ≤ length log.now) × (page_of (row_at log_width log.now i) < pages) }
     ensures { result ≡ enters_by marks.now pages k (row_at log_width log.now i) }

@@ -50,6 +50,7 @@ pub fn field_at(s: &[u8], at: usize) -> u32
 }
 
 // The word at a place, in the byte order of the sums.
+#[tactic(auto, using(crate::proofs::Laws::word_big, crate::proofs::Laws::word_small))]
 fn word_at(s: &[u8], at: usize, big: bool) -> u32
     requires { at + 4 ≤ length s.now }
     ensures { result ≡ word_at big s.now at }

@@ -148,6 +148,7 @@ pub fn ventarico_wal_judge(file: &[u8]) -> Judged
 }
 
 // Where the last image of a page (from 1) begins, frames behind the last commit frame left out.
+#[tactic(auto, using(crate::proofs::Passes::find_zero, crate::proofs::Passes::find_by))]
 pub fn ventarico_wal_find(file: &[u8], page: u32) -> Found
     ensures { result ≡ found_in file.now page }
 {

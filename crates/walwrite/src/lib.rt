@@ -45,6 +45,7 @@ fn all_below(list: &[u32], pages: u32) -> bool
 }
 
 // The refusals after soundness.
+#[tactic(auto, using(crate::proofs::Laws::write_page, crate::proofs::Laws::write_order, crate::proofs::Laws::write_many, crate::proofs::Laws::write_short, crate::proofs::Laws::write_empty, crate::proofs::Laws::write_go))]
 fn may_write(size: usize, pages: u32, list: &[u32], room: usize, order: u32) -> Ruling
     requires { size ≤ 4096 }
     ensures { result ≡ may_write size pages list.now room order }

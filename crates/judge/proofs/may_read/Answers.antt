@@ -27,18 +27,18 @@ pub returns-then-size-offset : goal.returns-then-size-offset
 unfolding verdict_of read_refusals
 returns-then-size-offset c = passed _ _ _ _ (ap not (lt-ltb _ _ c.if-pages-p.false)) (passed _ _ _ _ (turned _ _ _ c.is_number.ensures (ap not c.if-not-is_number.false)) (passed _ _ _ _ (turned _ _ _ c.is_between.ensures (ap not c.if-not-is_between.false)) (refused _ _ _ (ap not (lt-leb _ _ c.if-size-offset.true)))))
 
-pub returns-then-room-w : goal.returns-then-room-w
+pub returns-then-short : goal.returns-then-short
 unfolding verdict_of read_refusals
-returns-then-room-w c = passed _ _ _ _ (ap not (lt-ltb _ _ c.if-pages-p.false)) (passed _ _ _ _ (turned _ _ _ c.is_number.ensures (ap not c.if-not-is_number.false)) (passed _ _ _ _ (turned _ _ _ c.is_between.ensures (ap not c.if-not-is_between.false)) (passed _ _ _ _ (ap not (le-leb _ _ c.if-size-offset.false)) (refused _ _ _ (lt-ltb _ _ c.if-room-w.true)))))
+returns-then-short c = passed _ _ _ _ (ap not (lt-ltb _ _ c.if-pages-p.false)) (passed _ _ _ _ (turned _ _ _ c.is_number.ensures (ap not c.if-not-is_number.false)) (passed _ _ _ _ (turned _ _ _ c.is_between.ensures (ap not c.if-not-is_between.false)) (passed _ _ _ _ (ap not (le-leb _ _ c.if-size-offset.false)) (refused _ _ _ (lt-ltb _ _ c.if-short.true)))))
 
 pub returns-then-not-is_live : goal.returns-then-not-is_live
 unfolding verdict_of read_refusals
-returns-then-not-is_live c = passed _ _ _ _ (ap not (lt-ltb _ _ c.if-pages-p.false)) (passed _ _ _ _ (turned _ _ _ c.is_number.ensures (ap not c.if-not-is_number.false)) (passed _ _ _ _ (turned _ _ _ c.is_between.ensures (ap not c.if-not-is_between.false)) (passed _ _ _ _ (ap not (le-leb _ _ c.if-size-offset.false)) (passed _ _ _ _ (le-ltb _ _ c.if-room-w.false) (refused _ _ _ (turned _ _ _ c.is_live.ensures (ap not c.if-not-is_live.true)))))))
+returns-then-not-is_live c = passed _ _ _ _ (ap not (lt-ltb _ _ c.if-pages-p.false)) (passed _ _ _ _ (turned _ _ _ c.is_number.ensures (ap not c.if-not-is_number.false)) (passed _ _ _ _ (turned _ _ _ c.is_between.ensures (ap not c.if-not-is_between.false)) (passed _ _ _ _ (ap not (le-leb _ _ c.if-size-offset.false)) (passed _ _ _ _ (le-ltb _ _ c.if-short.false) (refused _ _ _ (turned _ _ _ c.is_live.ensures (ap not c.if-not-is_live.true)))))))
 
 pub returns-then-is_held : goal.returns-then-is_held
 unfolding verdict_of read_refusals
-returns-then-is_held c = passed _ _ _ _ (ap not (lt-ltb _ _ c.if-pages-p.false)) (passed _ _ _ _ (turned _ _ _ c.is_number.ensures (ap not c.if-not-is_number.false)) (passed _ _ _ _ (turned _ _ _ c.is_between.ensures (ap not c.if-not-is_between.false)) (passed _ _ _ _ (ap not (le-leb _ _ c.if-size-offset.false)) (passed _ _ _ _ (le-ltb _ _ c.if-room-w.false) (passed _ _ _ _ (turned _ _ _ c.is_live.ensures (ap not c.if-not-is_live.false)) (refused _ _ _ (same _ _ _ c.is_held.ensures c.if-is_held.true)))))))
+returns-then-is_held c = passed _ _ _ _ (ap not (lt-ltb _ _ c.if-pages-p.false)) (passed _ _ _ _ (turned _ _ _ c.is_number.ensures (ap not c.if-not-is_number.false)) (passed _ _ _ _ (turned _ _ _ c.is_between.ensures (ap not c.if-not-is_between.false)) (passed _ _ _ _ (ap not (le-leb _ _ c.if-size-offset.false)) (passed _ _ _ _ (le-ltb _ _ c.if-short.false) (passed _ _ _ _ (turned _ _ _ c.is_live.ensures (ap not c.if-not-is_live.false)) (refused _ _ _ (same _ _ _ c.is_held.ensures c.if-is_held.true)))))))
 
 pub returns : goal.returns
 unfolding verdict_of read_refusals
-returns c = passed _ _ _ _ (ap not (lt-ltb _ _ c.if-pages-p.false)) (passed _ _ _ _ (turned _ _ _ c.is_number.ensures (ap not c.if-not-is_number.false)) (passed _ _ _ _ (turned _ _ _ c.is_between.ensures (ap not c.if-not-is_between.false)) (passed _ _ _ _ (ap not (le-leb _ _ c.if-size-offset.false)) (passed _ _ _ _ (le-ltb _ _ c.if-room-w.false) (passed _ _ _ _ (turned _ _ _ c.is_live.ensures (ap not c.if-not-is_live.false)) (passed _ _ _ _ (same _ _ _ c.is_held.ensures c.if-is_held.false) refl))))))
+returns c = passed _ _ _ _ (ap not (lt-ltb _ _ c.if-pages-p.false)) (passed _ _ _ _ (turned _ _ _ c.is_number.ensures (ap not c.if-not-is_number.false)) (passed _ _ _ _ (turned _ _ _ c.is_between.ensures (ap not c.if-not-is_between.false)) (passed _ _ _ _ (ap not (le-leb _ _ c.if-size-offset.false)) (passed _ _ _ _ (le-ltb _ _ c.if-short.false) (passed _ _ _ _ (turned _ _ _ c.is_live.ensures (ap not c.if-not-is_live.false)) (passed _ _ _ _ (same _ _ _ c.is_held.ensures c.if-is_held.false) refl))))))

@@ -11,18 +11,18 @@ use Rattle.pagetable.proofs.each_once.Goals as goal
 pub loop-f-init : goal.loop-f-init
 loop-f-init c = (search rules, up_to_none _ _)
 
-pub returns-then-served-f-gt1 : goal.returns-then-served-f-gt1
-returns-then-served-f-gt1 c =
+pub returns-then-twice : goal.returns-then-twice
+returns-then-twice c =
     let a = c.args in
     up_to_fail (λ (g : ℕ). leb (get_or a.served.now (g + 1) 0) 1) a.frames c.loop-f.f _ _
-    c.loop-f-test.true (ap not (lt-leb _ _ c.if-served-f-gt1.true)) refl c.loop-f.invariant.1
+    c.loop-f-test.true (ap not (lt-leb _ _ c.if-twice.true)) refl c.loop-f.invariant.1
 
 pub loop-f-preserved : goal.loop-f-preserved
 loop-f-preserved c =
     let a = c.args in (
       search rules,
       up_to_turn (λ (g : ℕ). leb (get_or a.served.now (g + 1) 0) 1) a.frames c.loop-f.f _ _
-          c.loop-f-test.true (ap not (le-leb _ _ c.if-served-f-gt1.false)) refl c.loop-f.invariant.1,
+          c.loop-f-test.true (ap not (le-leb _ _ c.if-twice.false)) refl c.loop-f.invariant.1,
     )
 
 pub returns : goal.returns
