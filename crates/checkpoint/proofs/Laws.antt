@@ -1,40 +1,27 @@
 -- The marks of pages with committed rows; and the state after the first j compactions: at the start, a turn, at the end; and close after the last.
-use Prim.Native.Nat.{ℕ, suc, ◌+◌, ◌*◌, ◌≤◌, ◌<◌}
+use Prim.Native.Nat.{ℕ, suc, ◌+◌, ◌≤◌, ◌<◌}
 use native.Mathlib.Omega.{arith}
 use native.Mathlib.Numerals.{add-one}
-use mathlib.Core.Path.{◌≡◌, refl, sym, ap, subst, ◌∙◌}
+use mathlib.Core.Path.{◌≡◌, refl, sym, ap, ◌∙◌}
 use mathlib.Core.Bool.{Bool, true, false, cond, ◌&&◌}
 use mathlib.Core.List.{List, [], ◌∷◌}
-use lib.ListN.{length, get_or, set, replicate, length-replicate}
-use lib.Seq.{set_out}
+use lib.ListN.{length, get_or, replicate, length-replicate}
 use lib.Dec.{eqb}
-use borrow.Author.Tests.{eq-eqb, ne_eqb}
-use Rattle.word.specs.Word.{num}
+use borrow.Author.Tests.{ne_eqb}
 use Rattle.record.specs.Rows.{rows, cons_if, keep, any}
-use Rattle.record.specs.Record.{page_of, owner_of, committed, on_page, committed_on}
+use Rattle.record.specs.Record.{committed, on_page, committed_on}
 use Rattle.rules.specs.Lent.{Lent, pages_of, last_of, logged_of, count_of, online_of}
 use Rattle.rules.specs.Shape.{Shaped}
 use Rattle.rules.specs.Steps.{due, foldable, from_frame, compacted, compact_step, closed, after_pages, checkpointed}
 use Rattle.table.specs.Marks.{mark_pages}
 use Rattle.table.proofs.Marks.{marked_page, marked_length}
+use Rattle.std.specs.Prelude.{Option, None}
+use Rattle.compact.specs.declared.Compacted.{Compacted}
 use Rattle.compact.proofs.Laws.{step_not}
 use Rattle.rules.proofs.Kept.{fixed_step, last_step, logged_step, logs_pages}
 use Rattle.compact.proofs.Shapes.{shaped_step, foldable_step}
 use Rattle.checkpoint.specs.Noted.{Noted}
 use Rattle.checkpoint.specs.Halfway.{Halfway}
-
--- an open row leaves the marks as they are, a committed one does not
-pub row_open : (r y z : List ℕ) (o : ℕ) → o ≡ owner_of r → (o ≡ 0 → ⊥) → z ≡ cond (committed r) y z
-row_open r y z o e h = sym (ap (λ (b : Bool). cond b y z) (ne_eqb (owner_of r) 0 (λ g. h (e ∙ g))))
-
-row_marks : (r w y z : List ℕ) (o : ℕ) → o ≡ owner_of r → o ≡ 0 → w ≡ y → w ≡ cond (committed r) y z
-row_marks r w y z o e h q = q ∙ sym (ap (λ (b : Bool). cond b y z) (eq-eqb (owner_of r) 0 (sym e ∙ h)))
-
-pub row_past : (r z : List ℕ) (o p : ℕ) → o ≡ owner_of r → o ≡ 0 → p ≡ page_of r → length z ≤ p → z ≡ cond (committed r) (set z (page_of r) 1) z
-row_past r z o p e h g k = row_marks r z (set z (page_of r) 1) z o e h (sym (set_out z p 1 k) ∙ ap (λ (v : ℕ). set z v 1) g)
-
-pub row_marked : (r z : List ℕ) (o p : ℕ) → o ≡ owner_of r → o ≡ 0 → p ≡ page_of r → set z p 1 ≡ cond (committed r) (set z (page_of r) 1) z
-row_marked r z o p e h g = row_marks r (set z p 1) (set z (page_of r) 1) z o e h (ap (λ (v : ℕ). set z v 1) g)
 
 -- where no committed row is of a page, the page has no committed row
 none_on : (p : ℕ) (l : List (List ℕ)) → any (on_page p) (keep committed l) ≡ false → length (keep (committed_on p) l) ≡ 0
@@ -92,6 +79,10 @@ step_writes min_del max_age s p = go (due s p min_del max_age)
     go : (b : Bool) → (cond b (compacted s p) (record { lent = s; reads = 0; writes = 0; logs = 0 })).writes ≤ 1
     go true = omega arith
     go false = omega arith
+
+-- a step that was not due counts for nothing
+pub none_more : (count : Option Compacted → ℕ) (n k : ℕ) (d : Option Compacted) → count None ≡ 0 → d ≡ None → k ≡ n → k ≡ n + count d
+none_more count n k d z e h = let y : count d ≡ 0 = ap count e ∙ z in omega arith
 
 -- nothing compacted yet
 pub after_none : (min_del max_age : ℕ) (o : Lent) → Shaped o → logged_of o ≤ last_of o → Halfway min_del max_age o o 0 0 0
@@ -161,23 +152,6 @@ module _ (min_del max_age : ℕ) (o s : Lent) (reads writes j : ℕ) (a : Halfwa
         long = q.long;
         none = λ p l f. rw e (omega (arith, foldable_step min_del max_age s j a.shaped (next_there n k h) p, q.none p l f));
       }
-
-  -- the last page had its turn
-  pub after_last : (n : ℕ) → n ≡ pages_of o → n ≤ j → Halfway min_del max_age o s reads writes (pages_of o)
-  after_last n m h = let k : j ≡ pages_of o = omega (arith, a.within) in subst (λ (x : ℕ). Halfway min_del max_age o s reads writes x) k a
-
-  -- the areas are as long as at the start
-  pub same_lengths : Shaped o
-      → (length s.durable.marks ≡ length o.durable.marks) × (length s.durable.stored ≡ length o.durable.stored) × (length s.lost.tables ≡ length o.lost.tables) × (length s.lost.online ≡ length o.lost.online)
-  same_lengths w =
-      let y = w.sized in
-      let z = a.shaped.sized in
-      let f = a.fixed in (
-        z.marks ∙ ap (λ (l : List ℕ). 12 + 8 * num 4 l 4) f ∙ sym y.marks,
-        z.stored ∙ ap (λ (l : List ℕ). num 4 l 0 * num 4 l 4) f ∙ sym y.stored,
-        z.tables ∙ ap (λ (l : List ℕ). 35 + num 4 l 8 + num 4 l 4) f ∙ sym y.tables,
-        z.online ∙ ap (λ (l : List ℕ). 19 * num 4 l 12) f ∙ sym y.online,
-      )
 
 -- close after the last
 pub after_all : (min_del max_age : ℕ) (o s s' : Lent) (reads writes : ℕ) → Halfway min_del max_age o s reads writes (pages_of o) → s' ≡ (closed s).lent

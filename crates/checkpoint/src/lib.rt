@@ -2,45 +2,28 @@
 // One walk marks the pages that have a committed online record; the others are passed over, since compact is not due for them.
 #![tactic(auto)]
 
-ghost use Rattle.std.specs.Prelude.{◌≡◌, cond, ◌+◌, ◌*◌, ◌≤◌, ◌<◌, length, set};
-ghost use Rattle.record.specs.Rows.{row_at, rows, keep};
-ghost use Rattle.record.specs.Record.{online_width, page_of, committed};
+ghost use Rattle.std.specs.Prelude.{◌≡◌, ◌*◌, ◌≤◌, ◌<◌, length};
+ghost use Rattle.record.specs.Rows.{keep};
+ghost use Rattle.record.specs.Record.{committed};
 ghost use Rattle.rules.specs.Lent.{pages_of, last_of, logged_of};
 ghost use Rattle.rules.specs.Areas.{areas};
 ghost use Rattle.rules.specs.Shape.{Shaped};
 ghost use Rattle.rules.specs.Steps.{compact_step, checkpointed};
 ghost use Rattle.table.specs.Marks.{mark_pages};
+ghost use Rattle.compact.specs.Counted.{reads_of, writes_of};
 ghost use Rattle.checkpoint.specs.Noted.{Noted};
 ghost use Rattle.checkpoint.specs.Halfway.{Halfway};
 
 use compact::Compacted;
 use number::PageNo;
-
-// A mark at row i's page, if the row is committed. A page past the marks has none.
-fn mark_row(seen: &mut [u8], online: &[u8], i: usize)
-    requires { i * online_width + online_width ≤ length online.now }
-    ensures { seen.new ≡ cond (committed (row_at online_width online.now i)) (set seen.old (page_of (row_at online_width online.now i)) 1) seen.old }
-{
-    if record::owner_of(online, i) != 0 {
-        return;
-    }
-    let p = record::page_of(online, record::ONLINE_WIDTH, i).0;
-    if seen.len() <= p {
-        return;
-    }
-    seen[p] = 1;
-}
+use record::row;
+use record::row::OnlineRow;
 
 // A mark at the page of each committed row.
-fn mark_committed(seen: &mut [u8], online: &[u8], m: usize)
-    requires { m * online_width ≤ length online.now }
-    ensures { seen.new ≡ mark_pages (keep committed (rows online_width m online.now 0)) seen.old }
+fn mark_committed(seen: &mut [u8], online: &[OnlineRow])
+    ensures { seen.new ≡ mark_pages (keep committed online.now) seen.old }
 {
-    let mut i = 0;
-    while i < m {
-        mark_row(seen, online, i);
-        i += 1;
-    }
+    table::mark::mark_pages(seen, online, |o| o == 0);
 }
 
 // Compact as a step, where the page is marked; the step of another page does nothing.
@@ -56,18 +39,15 @@ fn marked_step(
     min_del: u64,
     max_age: u64,
     seen: &[u8],
-) -> Compacted
+) -> Option<Compacted>
     requires { Shaped (areas fixed.now marks.old log.now stored.old tables.old online.old pool.now) × (p.0 < pages_of (areas fixed.now marks.old log.now stored.old tables.old online.old pool.now)) × Noted seen.now (areas fixed.now marks.old log.now stored.old tables.old online.old pool.now) }
-    ensures reads { result.reads ≡ (compact_step min_del max_age (areas fixed.now marks.old log.now stored.old tables.old online.old pool.now) p.0).reads }
-    ensures writes { result.writes ≡ (compact_step min_del max_age (areas fixed.now marks.old log.now stored.old tables.old online.old pool.now) p.0).writes }
+    ensures reads { reads_of result ≡ (compact_step min_del max_age (areas fixed.now marks.old log.now stored.old tables.old online.old pool.now) p.0).reads }
+    ensures writes { writes_of result ≡ (compact_step min_del max_age (areas fixed.now marks.old log.now stored.old tables.old online.old pool.now) p.0).writes }
     ensures lent { areas fixed.now marks.new log.now stored.new tables.new online.new pool.now ≡ (compact_step min_del max_age (areas fixed.now marks.old log.now stored.old tables.old online.old pool.now) p.0).lent }
 {
     let at = p.0;
     if seen[at] != 1 {
-        return Compacted {
-            reads: 0,
-            writes: 0,
-        };
+        return None;
     }
     compact::compact_step(
         fixed, marks, log, stored, tables, online, pool, p, min_del, max_age,
@@ -93,10 +73,9 @@ fn compact_all(
     let pages = word::load(fixed, layout::PAGES_AT, 4) as usize;
     let mut reads: u32 = 0;
     let mut writes: u32 = 0;
-    let mut j = 0;
     // the tables are those after the first j compactions
-    while j < pages {
-        let d = marked_step(
+    for j in 0..pages {
+        let step = marked_step(
             fixed,
             marks,
             log,
@@ -109,9 +88,10 @@ fn compact_all(
             max_age,
             seen,
         );
-        reads += d.reads;
-        writes += d.writes;
-        j += 1;
+        if let Some(c) = step {
+            reads += c.reads;
+            writes += c.writes;
+        }
     }
     Compacted { reads, writes }
 }
@@ -135,7 +115,7 @@ pub fn checkpoint(
 {
     let m = word::load(tables, layout::COUNT_AT, 2) as usize;
     let mut seen = [0u8; 1024];
-    mark_committed(&mut seen, online, m);
+    mark_committed(&mut seen, row::first_rows(online, m));
     let d = compact_all(
         fixed, marks, log, stored, tables, online, pool, min_del, max_age, &seen,
     );

@@ -1,120 +1,75 @@
 // The clerk: which transaction numbers are live, and the last log number. Its state is a small struct that goes in by
-// value and comes back in a ruling.
+// value; a ruling is the state afterwards, or the refusal.
 #![tactic(auto)]
 
-ghost use Rattle.std.specs.Prelude.{◌≡◌};
-ghost use Rattle.clerk.specs.Rule.{begins, aborts, commits};
+ghost use Rattle.std.specs.Prelude.{◌≡◌, ◌+◌, ◌≤◌, ◌<◌, true, false, IfOk, IfErr};
+ghost use Rattle.rules.specs.declared.Bad.TheVariants.{Number};
+ghost use Rattle.rules.specs.declared.Refusal.TheVariants.{Argument};
+ghost use Rattle.clerk.specs.Rule.{is_number, begins, aborts, commits};
+
+use rules::{Bad, Refusal};
 
 // Number t, 1 to 32, is live where slot t - 1 is 1.
 #[repr(C)]
-#[derive(Clone, Copy)]
+#[derive(Clone, Copy, Debug, PartialEq, Eq)]
 pub struct Clerk {
     pub live: [u8; 32],
     pub last: u32,
 }
 
-// What the clerk rules: the refusal's number, or 0, and the clerk afterwards.
-#[derive(Clone, Copy)]
-pub struct Ruled {
-    pub code: u8,
-    pub clerk: Clerk,
+// The slot of a transaction number.
+#[tactic(auto, using(crate::proofs::Laws::too_low, crate::proofs::Laws::too_high, crate::proofs::Laws::number_in_range))]
+fn slot_of(x: u32) -> Result<usize, Refusal>
+    ensures ok { IfOk result (λ at. (is_number x ≡ true) × (at + 1 ≡ x) × (at < 32)) }
+    ensures err { IfErr result (λ why. (is_number x ≡ false) × (why ≡ Argument Number)) }
+{
+    if x < 1 || 32 < x {
+        return Err(Refusal::Argument(Bad::Number));
+    }
+    Ok(x as usize - 1)
 }
 
 impl Clerk {
     // Makes the number live.
-    pub fn begin(mut self, x: u32) -> Ruled
+    #[tactic(auto, unfolding(crate::specs::Rule::begins))]
+    pub fn begin(mut self, x: u32) -> Result<Clerk, Refusal>
         ensures { result ≡ begins self x }
     {
-        if x < 1 {
-            return Ruled {
-                code: 2,
-                clerk: self,
-            };
-        }
-        if 32 < x {
-            return Ruled {
-                code: 2,
-                clerk: self,
-            };
-        }
-        let at = (x - 1) as usize;
+        let at = slot_of(x)?;
         if self.live[at] == 1 {
-            return Ruled {
-                code: 5,
-                clerk: self,
-            };
+            return Err(Refusal::Live);
         }
         self.live[at] = 1;
-        Ruled {
-            code: 0,
-            clerk: self,
-        }
+        Ok(self)
     }
 
     // Ends the transaction.
-    pub fn abort(mut self, x: u32) -> Ruled
+    #[tactic(auto, unfolding(crate::specs::Rule::aborts))]
+    pub fn abort(mut self, x: u32) -> Result<Clerk, Refusal>
         ensures { result ≡ aborts self x }
     {
-        if x < 1 {
-            return Ruled {
-                code: 2,
-                clerk: self,
-            };
-        }
-        if 32 < x {
-            return Ruled {
-                code: 2,
-                clerk: self,
-            };
-        }
-        let at = (x - 1) as usize;
+        let at = slot_of(x)?;
         if self.live[at] != 1 {
-            return Ruled {
-                code: 4,
-                clerk: self,
-            };
+            return Err(Refusal::NotLive);
         }
         self.live[at] = 0;
-        Ruled {
-            code: 0,
-            clerk: self,
-        }
+        Ok(self)
     }
 
     // Ends the transaction and takes k log numbers for its records.
-    pub fn commit(mut self, x: u32, k: u32) -> Ruled
+    #[tactic(auto, unfolding(crate::specs::Rule::commits))]
+    pub fn commit(mut self, x: u32, k: u32) -> Result<Clerk, Refusal>
         ensures { result ≡ commits self x k }
     {
-        if x < 1 {
-            return Ruled {
-                code: 2,
-                clerk: self,
-            };
-        }
-        if 32 < x {
-            return Ruled {
-                code: 2,
-                clerk: self,
-            };
-        }
-        let at = (x - 1) as usize;
+        let at = slot_of(x)?;
         if self.live[at] != 1 {
-            return Ruled {
-                code: 4,
-                clerk: self,
-            };
+            return Err(Refusal::NotLive);
         }
         if 4294967295 - self.last < k {
-            return Ruled {
-                code: 9,
-                clerk: self,
-            };
+            return Err(Refusal::NumbersEnd);
         }
         self.live[at] = 0;
-        self.last = self.last + k;
-        Ruled {
-            code: 0,
-            clerk: self,
-        }
+        self.last += k;
+        Ok(self)
     }
 }

@@ -13,7 +13,7 @@ use Rattle.record.specs.Rows.{rows, joined, table, keep}
 use Rattle.record.specs.Record.{body_of, owned_by, number_rows}
 use Rattle.record.proofs.Laws.{drop_zeros}
 use Rattle.rules.proofs.Every.{zeros_are}
-use Rattle.record.proofs.Rows.{sub_mul, joined_all, joined_append, length_rows, length_number, keep_length}
+use Rattle.record.proofs.Rows.{sub_mul, joined_all, joined_append, length_rows, length_number}
 use Rattle.rules.specs.Sound.{zeros}
 use Rattle.rules.specs.Lent.{Lent, lent_of, live_at}
 use Rattle.rules.specs.Steps.{committing}
@@ -54,30 +54,7 @@ online_numbered size m x k l h z =
     let i : m * 19 ≤ m * 19 = omega arith in
     table_of 19 size (m * 19) (number_rows x k (rows 19 m l 0)) l (drop (m * 19) l) h (ap (λ (y : ℕ). y * 19) (sym n)) (zeros_from (m * 19) (m * 19) l z i)
 
--- `commit_rows`: by the numbers that were read
-pub rows_committed : (marks log online log' online' : List ℕ) (last n m x full : ℕ) → last ≡ num 4 marks 0 → n ≡ num 4 marks 8
-    → log' ≡ take (n * 14) log ++ (joined (map body_of (keep (owned_by x) (rows 19 m online 0))) ++ drop ((n + length (keep (owned_by x) (rows 19 m online 0))) * 14) log)
-    → online' ≡ joined (number_rows x (last + 1) (rows 19 m online 0)) ++ drop (m * 19) online
-    → full ≡ n + length (keep (owned_by x) (rows 19 m online 0))
-    → (log' ≡ take (num 4 marks 8 * 14) log ++ (joined (map body_of (keep (owned_by x) (rows 19 m online 0))) ++ drop ((num 4 marks 8 + length (keep (owned_by x) (rows 19 m online 0))) * 14) log))
-    × (online' ≡ joined (number_rows x (num 4 marks 0 + 1) (rows 19 m online 0)) ++ drop (m * 19) online)
-    × (full - n ≡ length (keep (owned_by x) (rows 19 m online 0)))
-rows_committed marks log online log' online' last n m x full el en eg eo ef = (rw (← en) eg, rw (← el) eo, omega arith)
-
--- `count_up`: by the numbers that were read
-pub counted_up : (marks a b : List ℕ) (last n k : ℕ) → last ≡ num 4 marks 0 → n ≡ num 4 marks 8 → a ≡ put 4 marks 0 (last + k) → b ≡ put 4 a 8 (n + k)
-    → b ≡ put 4 (put 4 marks 0 (num 4 marks 0 + k)) 8 (num 4 marks 8 + k)
-counted_up marks a b last n k el en ea eb = rw (← el, ← en) (eb ∙ ap (λ (x : List ℕ). put 4 x 8 (n + k)) ea)
-
--- `commit`: there is room in the log, and no more rows are kept than there are
-pub room_left : (tables online : List ℕ) (m n x span size : ℕ) → m ≡ num 2 tables 0 → n + length (keep (owned_by x) (rows 19 (num 2 tables 0) online 0)) ≤ span → size ≡ 14 * span
-    → n * 14 + length (keep (owned_by x) (rows 19 m online 0)) * 14 ≤ size
-room_left tables online m n x span size e h q = rw e (omega arith)
-
-pub kept_few : (m x k : ℕ) (online : List ℕ) → k ≡ length (keep (owned_by x) (rows 19 m online 0)) → k ≤ m
-kept_few m x k online e = omega (arith, keep_length (owned_by x) (rows 19 m online 0), length_rows 19 m online 0)
-
--- and every area is that of the step
+-- `commit`: every area is that of the step
 module _ (fixed marks log stored tables online pool : List ℕ) (x : ℕ) where
   abbrev lent : Lent
   lent = lent_of fixed marks log stored tables online pool

@@ -1,2 +1,3 @@
 -- What the contracts of `compact` cite.
 pub mod Planned
+pub mod Counted

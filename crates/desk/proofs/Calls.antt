@@ -24,10 +24,9 @@ use Rattle.readback.proofs.Pages.{page_length}
 use Rattle.wal.specs.Layout as wal
 use Rattle.walwrite.specs.declared.Why.{Why}
 use Rattle.walwrite.specs.declared.Why.TheVariants.{Store, ShortTarget, EmptyList}
-use Rattle.walwrite.specs.declared.Ruling.{Ruling}
-use Rattle.walwrite.specs.declared.Ruling.TheVariants.{Go, Refuse}
+use Rattle.std.specs.Prelude.{Ok, Err}
 use Rattle.walwrite.specs.Image.{image_in, image_of}
-use Rattle.walwrite.specs.Write.{code_of_why, listed, judge_write, log_of, settled, write_call}
+use Rattle.walwrite.specs.Write.{Ruling, code_of_why, listed, judge_write, log_of, settled, write_call}
 use Rattle.walwrite.proofs.Laws.{judged_go, go_parts, go_some}
 use Rattle.history.specs.Past.{Past}
 use Rattle.history.specs.Run.{Run}
@@ -54,15 +53,15 @@ why_code ShortTarget e = cc
 why_code EmptyList e = cc
 
 -- so a call that answers 0 has written its log
-went : (s : Lent) (list target : List ℕ) (a b q order : ℕ) → (write_call s list target a b q order).reply.code ≡ 0 → judge_write s list (length target) order ≡ Go
+went : (s : Lent) (list target : List ℕ) (a b q order : ℕ) → (write_call s list target a b q order).reply.code ≡ 0 → judge_write s list (length target) order ≡ Ok tt
 unfolding write_call
 went s list target a b q order = pick (judge_write s list (length target) order) refl
   where
-    pick : (v : Ruling) → judge_write s list (length target) order ≡ v → (settled v list target (log_of s list a b q order)).reply.code ≡ 0 → judge_write s list (length target) order ≡ Go
-    pick Go f e = f
-    pick (Refuse w) f e = let z : ◌≡◌ {A = ℕ} 0 1 = why_code w e in absurd (omega arith)
+    pick : (v : Ruling) → judge_write s list (length target) order ≡ v → (settled v list target (log_of s list a b q order)).reply.code ≡ 0 → judge_write s list (length target) order ≡ Ok tt
+    pick (Ok u) f e = f
+    pick (Err w) f e = let z : ◌≡◌ {A = ℕ} 0 1 = why_code w e in absurd (omega arith)
 
-target_is : (s : Lent) (list target : List ℕ) (a b q order : ℕ) → judge_write s list (length target) order ≡ Go → (write_call s list target a b q order).target ≡ log_of s list a b q order ++ drop (length (log_of s list a b q order)) target
+target_is : (s : Lent) (list target : List ℕ) (a b q order : ℕ) → judge_write s list (length target) order ≡ Ok tt → (write_call s list target a b q order).target ≡ log_of s list a b q order ++ drop (length (log_of s list a b q order)) target
 unfolding write_call
 target_is s list target a b q order f = ap (λ (v : Ruling). (settled v list target (log_of s list a b q order)).target) f
 

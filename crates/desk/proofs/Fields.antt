@@ -1,8 +1,7 @@
 -- What stands in a log that was written: its header is good, each of its frames is valid.
 use Prim.Native.Nat.{ℕ, zero, suc, ◌+◌, ◌*◌, ◌/◌, ◌%◌, ◌^◌, ◌≤◌, ◌<◌}
 use native.Mathlib.Omega.{arith}
-use native.Mathlib.Nat.{div-div-eq-div-mul}
-use mathlib.Core.Path.{◌≡◌, refl, sym, ap, ◌∙◌}
+use mathlib.Core.Path.{◌≡◌, refl, ap, ◌∙◌}
 use mathlib.Core.Bool.{Bool, true, false, ◌&&◌, ◌||◌}
 use mathlib.Core.List.{List, [], ◌∷◌, ◌++◌}
 use lib.ListN.{length}
@@ -12,31 +11,13 @@ use Rattle.word.specs.Word.{num}
 use Rattle.word.proofs.Tests.{and_in}
 use Rattle.wal.specs.declared.Sums.{Sums}
 use Rattle.wal.specs.declared.Header.{Header}
-use Rattle.wal.specs.declared.Opened.TheVariants.{Good}
-use Rattle.wal.specs.declared.Seen.TheVariants.{Valid}
-use Rattle.wal.specs.Sum.{field, fields_of, word_at, no_sums, paired, summed}
+use Rattle.std.specs.Prelude.{Ok, Some}
+use Rattle.word.specs.Big.{big as field, bytes_of}
+use Rattle.word.proofs.Bigs.{big_front}
+use Rattle.wal.specs.Sum.{fields_of, word_at, no_sums, paired, summed}
 use Rattle.wal.specs.Layout.{magic_of, version, is_page_size, is_header, head_in, holds_sums, opened, frame_sums, is_valid, seen}
 use Rattle.wal.specs.Written.{head_fields, head_of, head_bytes, image_sums, frame_bytes}
 use Rattle.wal.proofs.Puts.{frame_summed}
-
--- a number as a field's bytes, read back
-joined_up : (v a b c x y z : ℕ) → v ≡ a * 256 + z → a ≡ b * 256 + y → b ≡ c * 256 + x → c * 16777216 + x * 65536 + y * 256 + z ≡ v
-joined_up v a b c x y z e f g = omega arith
-
-split : (v : ℕ) → v ≡ v / 256 * 256 + v % 256
-split v = omega arith
-
-top : (v : ℕ) → v < 2 ^ 32 → v / 256 / 256 / 256 % 256 ≡ v / 256 / 256 / 256
-top v h = omega arith
-
-pub back : (v : ℕ) → v < 2 ^ 32 → v / 16777216 % 256 * 16777216 + v / 65536 % 256 * 65536 + v / 256 % 256 * 256 + v % 256 ≡ v
-back v h =
-    let b : v / 65536 ≡ v / 256 / 256 = sym (div-div-eq-div-mul v 256 256) in
-    let c : v / 16777216 ≡ v / 256 / 256 / 256 = sym (ap (λ (x : ℕ). x / 256) (div-div-eq-div-mul v 256 256) ∙ div-div-eq-div-mul v 65536 256) in
-    ap (λ (x : ℕ). x % 256 * 16777216 + v / 65536 % 256 * 65536 + v / 256 % 256 * 256 + v % 256) c
-    ∙ ap (λ (x : ℕ). v / 256 / 256 / 256 % 256 * 16777216 + x % 256 * 65536 + v / 256 % 256 * 256 + v % 256) b
-    ∙ ap (λ (x : ℕ). x * 16777216 + v / 256 / 256 % 256 * 65536 + v / 256 % 256 * 256 + v % 256) (top v h)
-    ∙ joined_up v (v / 256) (v / 256 / 256) (v / 256 / 256 / 256) (v / 256 / 256 % 256) (v / 256 % 256) (v % 256) (split v) (split (v / 256)) (split (v / 256 / 256))
 
 -- sums are below 2^32
 unfoldable pub Below : Sums → Type 0
@@ -69,11 +50,11 @@ module _ (big : Bool) (size sequence a b : ℕ) (rest : List ℕ) (zs : is_page_
   log = head_bytes big size sequence a b ++ rest
 
   header_size : field log 8 ≡ size
-  unfolding head_bytes head_fields fields_of field
-  header_size = back size small
+  unfolding head_bytes head_fields fields_of field bytes_of
+  header_size = big_front size [] small
 
   header_magic : (field log 0 ≡ magic_of big) × (field log 4 ≡ version)
-  unfolding head_bytes head_fields fields_of field
+  unfolding head_bytes head_fields fields_of field bytes_of
   header_magic = go big
     where
       go : (x : Bool) → (magic_of x / 16777216 % 256 * 16777216 + magic_of x / 65536 % 256 * 65536 + magic_of x / 256 % 256 * 256 + magic_of x % 256 ≡ magic_of x) × (version / 16777216 % 256 * 16777216 + version / 65536 % 256 * 65536 + version / 256 % 256 * 256 + version % 256 ≡ version)
@@ -96,13 +77,13 @@ module _ (big : Bool) (size sequence a b : ℕ) (rest : List ℕ) (zs : is_page_
       go false = refl
 
   header_sums : (x : Bool) → summed x 3 log 0 no_sums ≡ summed x 3 (head_fields big size sequence a b) 0 no_sums
-  unfolding head_bytes head_fields fields_of summed paired word_at field num
+  unfolding head_bytes head_fields fields_of summed paired word_at field num bytes_of
   header_sums true = refl
   header_sums false = refl
 
   salts : (field log 16 ≡ a) × (field log 20 ≡ b)
-  unfolding head_bytes head_fields fields_of field
-  salts = (back a ha, back b hb)
+  unfolding head_bytes head_fields fields_of field bytes_of
+  salts = (big_front a [] ha, big_front b [] hb)
 
   header_in : head_in log ≡ head_of big size sequence a b
   unfolding head_in head_of
@@ -111,20 +92,20 @@ module _ (big : Bool) (size sequence a b : ℕ) (rest : List ℕ) (zs : is_page_
       λ i. record { big = header_big i; size = header_size i; salt1 = salts.0 i; salt2 = salts.1 i; sums = e i }
 
   header_holds : holds_sums log 24 (head_of big size sequence a b).sums ≡ true
-  unfolding head_bytes head_fields fields_of field Below
+  unfolding head_bytes head_fields fields_of field Below bytes_of
   header_holds =
       let k = head_below big size sequence a b in
-      sums_held log 24 (head_of big size sequence a b).sums (back (head_of big size sequence a b).sums.s0 k.0) (back (head_of big size sequence a b).sums.s1 k.1)
+      sums_held log 24 (head_of big size sequence a b).sums (big_front (head_of big size sequence a b).sums.s0 [] k.0) (big_front (head_of big size sequence a b).sums.s1 [] k.1)
 
   header_length : 32 ≤ length log
-  unfolding head_bytes head_fields fields_of
+  unfolding head_bytes head_fields fields_of bytes_of
   header_length = omega arith
 
-  pub log_opened : opened log ≡ Good (head_of big size sequence a b)
+  pub log_opened : opened log ≡ Ok (head_of big size sequence a b)
   unfolding opened
   log_opened =
       let e : holds_sums log 24 (head_in log).sums ≡ true = ap (λ (x : Header). holds_sums log 24 x.sums) header_in ∙ header_holds in
-      rw (le-leb 32 (length log) header_length, header_is, e) (ap Good header_in)
+      rw (le-leb 32 (length log) header_length, header_is, e) (ap Ok header_in)
 
 -- a frame that was written is valid, and says its page number and its commit field
 module _ (h : Header) (s : Sums) (page commit : ℕ) (image : List ℕ) (hp : page < 2 ^ 32) (hc : commit < 2 ^ 32) (ha : h.salt1 < 2 ^ 32) (hb : h.salt2 < 2 ^ 32) where
@@ -132,27 +113,27 @@ module _ (h : Header) (s : Sums) (page commit : ℕ) (image : List ℕ) (hp : pa
   frame = frame_bytes h s page commit image
 
   frame_sums_are : frame_sums h s frame ≡ image_sums h s page commit image
-  unfolding frame_bytes fields_of
+  unfolding frame_bytes fields_of bytes_of
   frame_sums_are = frame_summed h s page commit h.salt1 h.salt2 (fields_of ((image_sums h s page commit image).s0 ∷ (image_sums h s page commit image).s1 ∷ []) ++ image)
 
   frame_salts : (eqb (field frame 8) h.salt1 && eqb (field frame 12) h.salt2) ≡ true
-  unfolding frame_bytes fields_of field
-  frame_salts = and_in (eqb (field frame 8) h.salt1) (eqb (field frame 12) h.salt2) (eq-eqb (field frame 8) h.salt1 (back h.salt1 ha)) (eq-eqb (field frame 12) h.salt2 (back h.salt2 hb))
+  unfolding frame_bytes fields_of field bytes_of
+  frame_salts = and_in (eqb (field frame 8) h.salt1) (eqb (field frame 12) h.salt2) (eq-eqb (field frame 8) h.salt1 (big_front h.salt1 [] ha)) (eq-eqb (field frame 12) h.salt2 (big_front h.salt2 [] hb))
 
   frame_holds : holds_sums frame 16 (image_sums h s page commit image) ≡ true
-  unfolding frame_bytes fields_of field Below
+  unfolding frame_bytes fields_of field Below bytes_of
   frame_holds =
       let k = image_below h s page commit image in
-      sums_held frame 16 (image_sums h s page commit image) (back (image_sums h s page commit image).s0 k.0) (back (image_sums h s page commit image).s1 k.1)
+      sums_held frame 16 (image_sums h s page commit image) (big_front (image_sums h s page commit image).s0 [] k.0) (big_front (image_sums h s page commit image).s1 [] k.1)
 
   names : (field frame 0 ≡ page) × (field frame 4 ≡ commit)
-  unfolding frame_bytes fields_of field
-  names = (back page hp, back commit hc)
+  unfolding frame_bytes fields_of field bytes_of
+  names = (big_front page [] hp, big_front commit [] hc)
 
   frame_valid : is_valid h s frame ≡ true
   unfolding is_valid
   frame_valid = and_in (eqb (field frame 8) h.salt1 && eqb (field frame 12) h.salt2) (holds_sums frame 16 (frame_sums h s frame)) frame_salts (ap (λ (x : Sums). holds_sums frame 16 x) frame_sums_are ∙ frame_holds)
 
-  pub frame_seen : seen h s frame ≡ Valid page commit (image_sums h s page commit image)
+  pub frame_seen : seen h s frame ≡ Some (record { page = page; commit = commit; sums = image_sums h s page commit image })
   unfolding seen
-  frame_seen = rw frame_valid (λ i. Valid (names.0 i) (names.1 i) (frame_sums_are i))
+  frame_seen = rw frame_valid (λ i. Some (record { page = names.0 i; commit = names.1 i; sums = frame_sums_are i }))

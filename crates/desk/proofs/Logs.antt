@@ -14,8 +14,8 @@ use Rattle.record.specs.Rows.{any}
 use Rattle.rules.specs.Sound.{every}
 use Rattle.wal.specs.declared.Sums.{Sums}
 use Rattle.wal.specs.declared.Header.{Header}
-use Rattle.wal.specs.declared.Opened.TheVariants.{Good}
-use Rattle.wal.specs.declared.Seen.TheVariants.{Valid}
+use Rattle.std.specs.Prelude.{Ok, Some}
+use Rattle.word.specs.Big.{bytes_of}
 use Rattle.wal.specs.Sum.{fields_of}
 use Rattle.wal.specs.Layout.{Frame, is_page_size, opened, frame_size, is_valid, seen, frame_at, frames_from, valid_frames}
 use Rattle.wal.specs.Written.{head_of, head_bytes, image_sums, frame_bytes, commit_before, frames_bytes, written}
@@ -45,11 +45,11 @@ commit_below count [] h = omega arith
 commit_below count (p ∷ ps) h = omega arith
 
 frame_length : (h : Header) (s : Sums) (page commit : ℕ) (image : List ℕ) → length (frame_bytes h s page commit image) ≡ 24 + length image
-unfolding frame_bytes fields_of
+unfolding frame_bytes fields_of bytes_of
 frame_length h s page commit image = omega arith
 
 fields_behind : (h : Header) (s : Sums) (page commit : ℕ) (image rest : List ℕ) → drop 24 (frame_bytes h s page commit image ++ rest) ≡ image ++ rest
-unfolding frame_bytes fields_of
+unfolding frame_bytes fields_of bytes_of
 fields_behind h s page commit image rest = refl
 
 listed_none : (w p at other : ℕ) (l : List ℕ) → any (λ (q : ℕ). eqb q p) l ≡ false → last_listed w p at other l ≡ other
@@ -83,8 +83,8 @@ module _ (h : Header) (image : ℕ → List ℕ) (count : ℕ) (few : count ≤ 
       let n₁ : length f ≡ frame_size h = frame_length h s (p + 1) c (image p) ∙ ap (λ (x : ℕ). 24 + x) (sized p below) in
       let n₂ : length (pre ++ (f ++ rest)) ≡ at + (frame_size h + length rest) = length-append pre (f ++ rest) ∙ (λ i. e i + (length-append f rest ∙ ap (λ (x : ℕ). x + length rest) n₁) i) in
       let n₃ : length (pre ++ f) ≡ at + frame_size h = length-append pre f ∙ (λ i. e i + n₁ i) in
-      let v : seen h s (frame_at h (pre ++ (f ++ rest)) at) ≡ Valid (p + 1) c s' = ap (seen h s) (behind pre f rest at (frame_size h) e n₁) ∙ frame_seen h s (p + 1) c (image p) (omega arith) (commit_below count ps few) ha hb in
-      more h (pre ++ (f ++ rest)) n at (p + 1) c s s' (omega arith) v
+      let v : seen h s (frame_at h (pre ++ (f ++ rest)) at) ≡ Some (record { page = p + 1; commit = c; sums = s' }) = ap (seen h s) (behind pre f rest at (frame_size h) e n₁) ∙ frame_seen h s (p + 1) c (image p) (omega arith) (commit_below count ps few) ha hb in
+      more h (pre ++ (f ++ rest)) n at s (record { page = p + 1; commit = c; sums = s' }) (omega arith) v
       ∙ ap (λ (x : List ℕ). record { page = p + 1; commit = c; place = at + 24 } ∷ frames_from h x n (at + frame_size h) s') (sym (append_assoc pre f rest))
       ∙ ap (λ (x : List Frame). record { page = p + 1; commit = c; place = at + 24 } ∷ x) (frames_valid ps (pre ++ f) (at + frame_size h) n s' b.1 n₃ (omega arith))
 
@@ -198,7 +198,7 @@ module _ (big : Bool) (size sequence a b : ℕ) (image : ℕ → List ℕ) (coun
       length-append (head_bytes big size sequence a b) (frames_bytes head image count list head.sums)
       ∙ (λ i. head_length big size sequence a b i + frames_length head image count sized list head.sums all i)
 
-  log_good : opened log ≡ Good head
+  log_good : opened log ≡ Ok head
   unfolding log written head
   log_good = log_opened big size sequence a b (frames_bytes head image count list head.sums) zs (omega (arith, (size_range size zs).1)) ha hb
 

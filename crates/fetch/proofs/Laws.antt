@@ -6,19 +6,21 @@ use mathlib.Core.Bool.{true, false, cond}
 use mathlib.Core.List.{List, ◌++◌}
 use lib.ListN.{length, get_or, take, drop, length-take, length-drop}
 use lib.Dec.{eqb}
-use borrow.Author.Tests.{eq-eqb, ne_eqb}
 use borrow.Rule.Slice.PartMut.{put_mid, put_same}
 use Rattle.record.specs.Part.{part, with_part}
-use Rattle.record.specs.Rows.{rows, keep}
+use Rattle.record.specs.Rows.{keep}
 use Rattle.record.specs.Record.{on_page, applied}
 use Rattle.record.proofs.Parts.{part_inner, one_fits}
 use Rattle.order.specs.Order.{touched, frame_for}
-use Rattle.rules.specs.Lent.{Lent, size_of, pages_of, frames_of, count_of, order_of, entry_at, entry_of, page_in, with_page, with_order, with_entries}
+use Rattle.rules.specs.Lent.{Lent, size_of, pages_of, frames_of, order_of, entry_at, entry_of, in_frame, frame_of, page_in, with_page, with_order, with_entries, online_of}
 use Rattle.rules.specs.Shape.{Shaped}
 use Rattle.rules.specs.Steps.{placed, rebuilt, fetched_entries, fetched_pool, read_tables, read_step, read_bytes}
 use Rattle.rules.proofs.Kept.{frame_below}
 use Rattle.rules.proofs.Tables.{entry_below}
-use Rattle.fetch.specs.Post.{SizesRead, PageBrought, PageFetched, PageUsed, ReadDone}
+use Rattle.layout.specs.Read.{ParamsRead}
+use Rattle.rules.specs.declared.Params.{Params}
+use Rattle.frames.proofs.Laws.{in_frame_placed}
+use Rattle.fetch.specs.Post.{PageBrought, PageFetched, PageUsed, ReadDone}
 
 -- a middle part put back
 pub mid_put : (l ys zs : List ℕ) (a k e : ℕ) → e ≡ a + k → ys ≡ zs → put_mid a (e - a) l ys ≡ with_part a k l zs
@@ -27,34 +29,35 @@ mid_put l ys zs a k e h q =
     rw (d, q)
 
 -- the entry and the frame, by the parameters that were read
-pub entry_in : (s : Lent) (p size pages frames e : ℕ) → SizesRead s.durable.fixed size pages frames → e ≡ get_or s.lost.tables (entry_at frames p) 0 → e ≡ entry_of s p
-entry_in s p size pages frames e z h = rw (← z.frames) h
+pub entry_in : (s : Lent) (p : ℕ) (given : Params) (e : ℕ) → ParamsRead s.durable.fixed given → e ≡ get_or s.lost.tables (entry_at given.frames p) 0 → e ≡ entry_of s p
+entry_in s p given e z h = rw (← z.frames) h
 
-pub frame_in : (s : Lent) (size pages frames f : ℕ) (o : List ℕ) → o ≡ order_of s → SizesRead s.durable.fixed size pages frames → f ≡ frame_for frames o → f ≡ frame_for (frames_of s) (order_of s)
-frame_in s size pages frames f o h z e = rw (← z.frames, ← h) e
+pub frame_in : (s : Lent) (given : Params) (f : ℕ) (o : List ℕ) → o ≡ order_of s → ParamsRead s.durable.fixed given → f ≡ frame_for given.frames o → f ≡ frame_for (frames_of s) (order_of s)
+frame_in s given f o h z e = rw (← z.frames, ← h) e
 
-pub frame_within : (s : Lent) (size pages frames f : ℕ) (o : List ℕ) → Shaped s → o ≡ order_of s → SizesRead s.durable.fixed size pages frames → f ≡ frame_for frames o → f < frames_of s
-frame_within s size pages frames f o w h z e =
-    rw (frame_in s size pages frames f o h z e) (frame_below (frames_of s) (order_of s) w.sized.frames_least w.order)
+pub frame_within : (s : Lent) (given : Params) (f : ℕ) (o : List ℕ) → Shaped s → o ≡ order_of s → ParamsRead s.durable.fixed given → f ≡ frame_for given.frames o → f < frames_of s
+frame_within s given f o w h z e =
+    rw (frame_in s given f o h z e) (frame_below (frames_of s) (order_of s) w.sized.frames_least w.order)
 
 -- fetch, of a page that is in a frame, and of one that is not
-pub fetched_there : (s : Lent) (p e : ℕ) → Shaped s → p < pages_of s → e ≡ entry_of s p → (e / 2 ≡ 0 → ⊥) → PageFetched s p (e / 2 - 1) 0 s.lost.tables s.lost.pool
+pub fetched_there : (s : Lent) (p e f : ℕ) → Shaped s → p < pages_of s → e ≡ entry_of s p → in_frame e ≡ true → f ≡ frame_of e → PageFetched s p f 0 s.lost.tables s.lost.pool
 unfolding fetched_entries fetched_pool
-fetched_there s p e h q i n =
-    let b : eqb (entry_of s p / 2) 0 ≡ false = rw i at (ne_eqb (e / 2) 0 n) in
+fetched_there s p e f h q i n k =
+    let b : in_frame (entry_of s p) ≡ true = rw i at n in
     let w : e / 2 ≤ frames_of s = rw i (entry_below s p h q) in
+    let l : 1 ≤ e / 2 = in_frame_placed e n in
     record {
-      frame = rw (b, i);
-      within = omega arith;
+      frame = rw (b, ← i) k;
+      within = omega (arith, k);
       reads = rw b;
       tables = rw b (sym (put_same (35 + frames_of s) (pages_of s) s.lost.tables));
       pool = rw b;
     }
 
-pub fetched_new : (s : Lent) (p e f : ℕ) {t g : List ℕ} → Shaped s → e ≡ entry_of s p → e / 2 ≡ 0 → f ≡ frame_for (frames_of s) (order_of s) → PageBrought s p f t g → PageFetched s p f 1 t g
+pub fetched_new : (s : Lent) (p e f : ℕ) {t g : List ℕ} → Shaped s → e ≡ entry_of s p → in_frame e ≡ false → f ≡ frame_for (frames_of s) (order_of s) → PageBrought s p f t g → PageFetched s p f 1 t g
 unfolding fetched_entries fetched_pool
 fetched_new s p e f h i n m w =
-    let b : eqb (entry_of s p / 2) 0 ≡ true = rw i at (eq-eqb (e / 2) 0 n) in
+    let b : in_frame (entry_of s p) ≡ false = rw i at n in
     record {
       frame = rw b m;
       within = rw m (frame_below (frames_of s) (order_of s) h.sized.frames_least h.order);
@@ -63,18 +66,17 @@ fetched_new s p e f h i n m w =
       pool = rw (b, ← m) w.pool;
     }
 
--- a frame, a stored page and the online rows lie within their areas
-pub fill_fits : (s : Lent) (p f size m : ℕ) → Shaped s → p < pages_of s → f < frames_of s → size ≡ size_of s → m ≡ count_of s → (f * size + size ≤ length s.lost.pool) × (p * size + size ≤ length s.durable.stored) × (m * 19 ≤ length s.lost.online)
-fill_fits s p f size m h q r e i = (
+-- a frame and a stored page lie within their areas
+pub fill_fits : (s : Lent) (p f size : ℕ) → Shaped s → p < pages_of s → f < frames_of s → size ≡ size_of s → (f * size + size ≤ length s.lost.pool) × (p * size + size ≤ length s.durable.stored)
+fill_fits s p f size h q r e = (
   rw e (one_fits f (frames_of s) (size_of s) (length s.lost.pool) r h.sized.pool),
   rw e (one_fits p (pages_of s) (size_of s) (length s.durable.stored) q h.sized.stored),
-  omega (arith, h.count, h.sized.online),
 )
 
 -- what `bring_in` leaves
-pub brought : (s : Lent) (p f size pages frames m e : ℕ) (t g : List ℕ) → SizesRead s.durable.fixed size pages frames → m ≡ count_of s → e ≡ get_or s.lost.tables (entry_at frames p) 0 → t ≡ with_entries frames pages (placed f p (part (35 + frames) pages s.lost.tables)) s.lost.tables → g ≡ with_page size f s.lost.pool (cond (eqb (e % 2) 1) (applied (keep (on_page p) (rows 19 m s.lost.online 0)) (page_in size p s.durable.stored)) (page_in size p s.durable.stored)) → PageBrought s p f t g
+pub brought : (s : Lent) (p f : ℕ) (given : Params) (o : List (List ℕ)) (e : ℕ) (t g : List ℕ) → ParamsRead s.durable.fixed given → o ≡ online_of s → e ≡ get_or s.lost.tables (entry_at given.frames p) 0 → t ≡ with_entries given.frames given.pages (placed f p (part (35 + given.frames) given.pages s.lost.tables)) s.lost.tables → g ≡ with_page given.size f s.lost.pool (cond (eqb (e % 2) 1) (applied (keep (on_page p) o) (page_in given.size p s.durable.stored)) (page_in given.size p s.durable.stored)) → PageBrought s p f t g
 unfolding rebuilt
-brought s p f size pages frames m e t g z i j et eg =
+brought s p f given o e t g z i j et eg =
     record {
       tables = rw (← z.frames, ← z.pages) et;
       pool = rw (← z.frames, ← z.size, ← i, ← j) eg;
@@ -92,9 +94,9 @@ out_part l b ys f size offset w h e =
     rw (e, d, part_inner (f * size) size offset w l h)
 
 -- the frame is the latest used
-pub used : (s : Lent) (p f n size pages frames : ℕ) (o t t' g : List ℕ) → SizesRead s.durable.fixed size pages frames → o ≡ order_of s → PageFetched s p f n t g → t' ≡ with_order frames (touched f o) t → PageUsed s p f n t' g (read_tables s p)
+pub used : (s : Lent) (p f n : ℕ) (given : Params) (o t t' g : List ℕ) → ParamsRead s.durable.fixed given → o ≡ order_of s → PageFetched s p f n t g → t' ≡ with_order given.frames (touched f o) t → PageUsed s p f n t' g (read_tables s p)
 unfolding read_tables
-used s p f n size pages frames o t t' g z i h e =
+used s p f n given o t t' g z i h e =
     record {
       frame = h.frame;
       within = h.within;
@@ -104,13 +106,13 @@ used s p f n size pages frames o t t' g z i h e =
     }
 
 -- its bytes lie within the pool
-pub used_fits : (s : Lent) (p f n size pages frames : ℕ) (t g m : List ℕ) → Shaped s → SizesRead s.durable.fixed size pages frames → PageUsed s p f n t g m → length g ≡ length s.lost.pool → f * size + size ≤ length g
-used_fits s p f n size pages frames t g m h z w e =
+pub used_fits : (s : Lent) (p f n : ℕ) (given : Params) (t g m : List ℕ) → Shaped s → ParamsRead s.durable.fixed given → PageUsed s p f n t g m → length g ≡ length s.lost.pool → f * given.size + given.size ≤ length g
+used_fits s p f n given t g m h z w e =
     rw z.size (one_fits f (frames_of s) (size_of s) (length g) w.within (e ∙ h.sized.pool))
 
-pub read_done : (s : Lent) (p offset w f n size pages frames : ℕ) (t g b d : List ℕ) → SizesRead s.durable.fixed size pages frames → PageUsed s p f n t g (read_tables s p) → d ≡ part offset w (page_in size f g) ++ drop w b → ReadDone s p offset w n t g b d
+pub read_done : (s : Lent) (p offset w f n : ℕ) (given : Params) (t g b d : List ℕ) → ParamsRead s.durable.fixed given → PageUsed s p f n t g (read_tables s p) → d ≡ part offset w (page_in given.size f g) ++ drop w b → ReadDone s p offset w n t g b d
 unfolding read_step read_bytes
-read_done s p offset w f n size pages frames t g b d z h e =
+read_done s p offset w f n given t g b d z h e =
     record {
       reads = h.reads;
       lent = rw (h.tables, h.pool);

@@ -6,7 +6,6 @@ use mathlib.Core.Bool.{Bool, true, false, cond}
 use mathlib.Core.List.{List, [], ◌∷◌, ◌++◌, map, append_assoc, append-nil}
 use lib.ListN.{length, take, drop, set, replicate, length-append, length-take, length-drop, length-set, length-map}
 use lib.Seq.{length-take-le, set-append_left, take_at, drop_at}
-use Rattle.word.specs.Word.{put}
 use Rattle.record.specs.Part.{with_part}
 use Rattle.record.specs.Rows.{row_at, rows, joined, table}
 use Rattle.record.specs.Record.{page_of, apply}
@@ -19,7 +18,9 @@ use Rattle.rules.specs.Sound.{zeros}
 use Rattle.rules.specs.Shape.{Shaped}
 use Rattle.rules.specs.Steps.{freed, placed, place_of, fetched_entries, fetched_pool, update_tables, updated}
 use Rattle.table.proofs.Moves.{set_append_add}
-use Rattle.fetch.specs.Post.{SizesRead, PageFetched, PageUsed, UpdateDone}
+use Rattle.layout.specs.Read.{ParamsRead}
+use Rattle.rules.specs.declared.Params.{Params}
+use Rattle.fetch.specs.Post.{PageFetched, PageUsed, UpdateDone}
 
 -- a row that was written, read back
 pub row_back : (m : ℕ) (l r : List ℕ) → m * 19 ≤ length l → length r ≡ 19 → row_at 19 (with_part (m * 19) 19 l r) m ≡ r
@@ -52,10 +53,6 @@ set_in_part a k p d t es h q =
     ∙ set_append_add (take a t) (es ++ drop k (drop a t)) p d
     ∙ ap (λ (l : List ℕ). take a t ++ l) (set-append_left es (drop k (drop a t)) p d q)
 
--- what `note_change` leaves
-pub noted : (t t₁ t₂ t₃ o : List ℕ) (frames f p m : ℕ) → t₁ ≡ set t (entry_at frames p) (dirty_in f) → t₂ ≡ with_order frames (touched f o) t₁ → t₃ ≡ put 2 t₂ 0 (m + 1) → t₃ ≡ with_count (m + 1) (with_order frames (touched f o) (set t (entry_at frames p) (dirty_in f)))
-noted t t₁ t₂ t₃ o frames f p m e₁ e₂ e₃ = e₃ ∙ rw (e₂, e₁)
-
 -- a page has its entry before and after it is fetched
 length_fetched : (s : Lent) (p : ℕ) → Shaped s → length (fetched_entries s p) ≡ pages_of s
 unfolding fetched_entries placed
@@ -70,9 +67,9 @@ length_fetched s p h =
     pick false l x y = y
 
 -- page p is dirty in its frame, which is the latest used, and there is one online row more
-pub changed : (s : Lent) (p f n size pages frames m : ℕ) (o t t' g : List ℕ) → Shaped s → p < pages_of s → SizesRead s.durable.fixed size pages frames → m ≡ count_of s → o ≡ order_of s → PageFetched s p f n t g → t' ≡ with_count (m + 1) (with_order frames (touched f o) (set t (entry_at frames p) (dirty_in f))) → PageUsed s p f n t' g (update_tables s p)
+pub changed : (s : Lent) (p f n : ℕ) (given : Params) (m : ℕ) (o t t' g : List ℕ) → Shaped s → p < pages_of s → ParamsRead s.durable.fixed given → m ≡ count_of s → o ≡ order_of s → PageFetched s p f n t g → t' ≡ with_count (m + 1) (with_order given.frames (touched f o) (set t (entry_at given.frames p) (dirty_in f))) → PageUsed s p f n t' g (update_tables s p)
 unfolding update_tables
-changed s p f n size pages frames m o t t' g w q z i j h e =
+changed s p f n given m o t t' g w q z i j h e =
     let b : 35 + frames_of s ≤ length s.lost.tables = omega (arith, w.sized.tables) in
     let k : p < length (fetched_entries s p) = omega (arith, length_fetched s p w) in
     record {
@@ -84,9 +81,9 @@ changed s p f n size pages frames m o t t' g w q z i j h e =
     }
 
 -- what `update` leaves, by the row r of page p
-pub updated_row : (s : Lent) (r : List ℕ) (p f n size pages frames m : ℕ) (t o g g' : List ℕ) → page_of r ≡ p → length r ≡ 19 → Shaped s → count_of s < online_size_of s → zeros (drop (count_of s * 19) s.lost.online) ≡ true → SizesRead s.durable.fixed size pages frames → m ≡ count_of s → PageUsed s p f n t g (update_tables s p) → o ≡ with_part (m * 19) 19 s.lost.online r → g' ≡ with_page size f g (apply (row_at 19 o m) (page_in size f g)) → UpdateDone s r n t o g'
+pub updated_row : (s : Lent) (r : List ℕ) (p f n : ℕ) (given : Params) (m : ℕ) (t o g g' : List ℕ) → page_of r ≡ p → length r ≡ 19 → Shaped s → count_of s < online_size_of s → zeros (drop (count_of s * 19) s.lost.online) ≡ true → ParamsRead s.durable.fixed given → m ≡ count_of s → PageUsed s p f n t g (update_tables s p) → o ≡ with_part (m * 19) 19 s.lost.online r → g' ≡ with_page given.size f g (apply (row_at 19 o m) (page_in given.size f g)) → UpdateDone s r n t o g'
 unfolding updated
-updated_row s r p f n size pages frames m t o g g' e l w q y z i h eo eg =
+updated_row s r p f n given m t o g g' e l w q y z i h eo eg =
     let b : m * 19 ≤ length s.lost.online = omega (arith, w.sized.online) in
     let c : row_at 19 o m ≡ r = rw eo (row_back m s.lost.online r b l) in
     let d : o ≡ table 19 (online_size_of s) (online_of s ++ (r ∷ [])) = eo ∙ rw i (sym (row_appended (count_of s) (online_size_of s) s.lost.online r w.sized.online q y)) in

@@ -1,14 +1,7 @@
 -- What fetch and the calls over it leave, named part by part.
 use Rattle.std.specs.Prelude.{ℕ, ◌<◌, ◌≡◌, List}
-use Rattle.word.specs.Word.{num}
 use Rattle.rules.specs.Lent.{Lent, size_of, pages_of, frames_of, entries_of, with_page, with_entries}
 use Rattle.rules.specs.Steps.{placed, rebuilt, place_of, fetched_entries, fetched_pool, fetch_reads, lost_now, read_step, read_bytes, updated}
-
--- the parameters k, n and f, out of their bytes
-pub record SizesRead (fixed : List ℕ) (k n f : ℕ) : Type 0 where
-  pub size : k ≡ num 4 fixed 0
-  pub pages : n ≡ num 4 fixed 4
-  pub frames : f ≡ num 4 fixed 8
 
 -- page p was put into frame f; the tables are t and the pool is g
 pub record PageBrought (s : Lent) (p f : ℕ) (t g : List ℕ) : Type 0 where

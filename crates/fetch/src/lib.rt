@@ -4,47 +4,26 @@
 
 ghost use Rattle.std.specs.Prelude.{◌≡◌, true, cond, ◌++◌, ◌+◌, ◌*◌, ◌≤◌, ◌<◌, length, get_or, drop, set};
 ghost use Rattle.record.specs.Part.{part};
-ghost use Rattle.record.specs.Rows.{row_at, rows, keep};
+ghost use Rattle.record.specs.Rows.{keep};
 ghost use Rattle.record.specs.Record.{online_width, on_page, apply, applied, row_of};
 ghost use Rattle.order.specs.Order.{touched};
-ghost use Rattle.order.specs.Meant.{list_of};
 ghost use Rattle.rules.specs.Lent.{order_at, fixed_length, count_in, size_of, pages_of, frames_of, online_size_of, count_of, order_of, entry_at, dirty_in, page_in, with_page, with_order, with_entries, with_count};
 ghost use Rattle.rules.specs.Areas.{areas};
 ghost use Rattle.rules.specs.Sound.{zeros};
 ghost use Rattle.rules.specs.Shape.{Shaped};
 ghost use Rattle.rules.specs.Steps.{placed, read_tables, update_tables};
-ghost use Rattle.fetch.specs.Post.{SizesRead, PageBrought, PageFetched, PageUsed, ReadDone, UpdateDone};
+ghost use Rattle.fetch.specs.Post.{PageBrought, PageFetched, PageUsed, ReadDone, UpdateDone};
 
 use number::{FrameNo, PageNo};
 use order::Order;
-
-// The parameters that these calls want.
-#[derive(Clone, Copy)]
-struct Sizes {
-    size: usize,
-    pages: usize,
-    frames: usize,
-}
+use record::row;
+use record::row::OnlineRow;
 
 // Where a page is, and with how many page reads it came there.
 #[derive(Clone, Copy)]
 pub struct Fetched {
     pub frame: FrameNo,
     pub reads: u32,
-}
-
-fn load_sizes(fixed: &[u8]) -> Sizes
-    requires { length fixed.now ≡ fixed_length }
-    ensures { SizesRead fixed.now result.size result.pages result.frames }
-{
-    let size = word::load(fixed, layout::SIZE_AT, 4) as usize;
-    let pages = word::load(fixed, layout::PAGES_AT, 4) as usize;
-    let frames = word::load(fixed, layout::FRAMES_AT, 4) as usize;
-    Sizes {
-        size,
-        pages,
-        frames,
-    }
 }
 
 // How many online records there are.
@@ -56,12 +35,11 @@ fn count_of(tables: &[u8]) -> usize
 }
 
 // The page's entry.
-fn entry_of(tables: &[u8], frames: usize, p: PageNo) -> usize
+fn entry_of(tables: &[u8], frames: usize, p: PageNo) -> u8
     requires { entry_at frames p.0 < length tables.now }
-    ensures { (result ≡ get_or tables.now (entry_at frames p.0) 0) × (result < 256) }
+    ensures { result ≡ get_or tables.now (entry_at frames p.0) 0 }
 {
-    let at = layout::ORDER_AT + frames + p.0;
-    word::wide(tables[at]) as usize
+    tables[layout::ORDER_AT + frames + p.0]
 }
 
 // Page p goes into frame f: the entries.
@@ -81,16 +59,15 @@ fn fill_frame(
     f: FrameNo,
     stored: &[u8],
     p: PageNo,
-    online: &[u8],
-    m: usize,
+    online: &[OnlineRow],
     evicted: bool,
 )
-    requires { (f.0 * size + size ≤ length pool.old) × (p.0 * size + size ≤ length stored.now) × (m * online_width ≤ length online.now) }
-    ensures { pool.new ≡ with_page size f.0 pool.old (cond evicted (applied (keep (on_page p.0) (rows online_width m online.now 0)) (page_in size p.0 stored.now)) (page_in size p.0 stored.now)) }
+    requires { (f.0 * size + size ≤ length pool.old) × (p.0 * size + size ≤ length stored.now) }
+    ensures { pool.new ≡ with_page size f.0 pool.old (cond evicted (applied (keep (on_page p.0) online.now) (page_in size p.0 stored.now)) (page_in size p.0 stored.now)) }
 {
     let a = f.0 * size;
     let e = a + size;
-    frames::rebuild(&mut pool[a..e], stored, size, p, online, m, evicted);
+    frames::rebuild(&mut pool[a..e], stored, size, p, online, evicted);
 }
 
 // Page p goes into frame f.
@@ -108,17 +85,17 @@ fn bring_in(
     requires { Shaped (areas fixed.now marks.now log.now stored.now tables.old online.now pool.old) × (p.0 < pages_of (areas fixed.now marks.now log.now stored.now tables.old online.now pool.old)) × (f.0 < frames_of (areas fixed.now marks.now log.now stored.now tables.old online.now pool.old)) }
     ensures { PageBrought (areas fixed.now marks.now log.now stored.now tables.old online.now pool.old) p.0 f.0 tables.new pool.new }
 {
-    let s = load_sizes(fixed);
-    let size = s.size;
-    let pages = s.pages;
-    let frames = s.frames;
-    let m = count_of(tables);
+    let given = layout::params_of(fixed);
+    let size = given.size as usize;
+    let pages = given.pages as usize;
+    let frames = given.frames as usize;
+    let rows = row::first_rows::<19>(online, count_of(tables));
     let evicted = entry_of(tables, frames, p) % 2 == 1;
-    fill_frame(pool, size, f, stored, p, online, m, evicted);
+    fill_frame(pool, size, f, stored, p, rows, evicted);
     take_frame(tables, frames, pages, f, p);
 }
 
-// Page p in a frame. The use order is handed in by value and not changed here.
+// Page p in a frame. The use order is lent and not changed here.
 pub fn fetch(
     fixed: &[u8],
     marks: &[u8],
@@ -127,20 +104,16 @@ pub fn fetch(
     tables: &mut [u8],
     online: &[u8],
     pool: &mut [u8],
-    order: Order,
+    order: &Order,
     p: PageNo,
 ) -> Fetched
-    requires { Shaped (areas fixed.now marks.now log.now stored.now tables.old online.now pool.old) × (p.0 < pages_of (areas fixed.now marks.now log.now stored.now tables.old online.now pool.old)) × (list_of order ≡ order_of (areas fixed.now marks.now log.now stored.now tables.old online.now pool.old)) × (order.used ≤ 64) }
+    requires { Shaped (areas fixed.now marks.now log.now stored.now tables.old online.now pool.old) × (p.0 < pages_of (areas fixed.now marks.now log.now stored.now tables.old online.now pool.old)) × (order.now ≡ order_of (areas fixed.now marks.now log.now stored.now tables.old online.now pool.old)) }
     ensures { PageFetched (areas fixed.now marks.now log.now stored.now tables.old online.now pool.old) p.0 result.frame.0 result.reads tables.new pool.new }
 {
-    let s = load_sizes(fixed);
-    let frames = s.frames;
-    let half = entry_of(tables, frames, p) / 2;
-    if half != 0 {
-        return Fetched {
-            frame: FrameNo(half - 1),
-            reads: 0,
-        };
+    let given = layout::params_of(fixed);
+    let frames = given.frames as usize;
+    if let Some(frame) = frames::frame_of(entry_of(tables, frames, p)) {
+        return Fetched { frame, reads: 0 };
     }
     let f = order.frame_for(frames);
     bring_in(fixed, marks, log, stored, tables, online, pool, f, p);
@@ -149,11 +122,11 @@ pub fn fetch(
 
 // Frame f becomes the latest used.
 fn make_latest(tables: &mut [u8], frames: usize, order: Order, f: FrameNo)
-    requires { (order_at + frames ≤ length tables.old) × (frames ≤ 64) × (order.used ≤ 64) × (f.0 < 256) }
-    ensures { tables.new ≡ with_order frames (touched f.0 (list_of order)) tables.old }
+    requires { (order_at + frames ≤ length tables.old) × (frames ≤ 64) × (length order ≤ 64) × (f.0 < 256) }
+    ensures { tables.new ≡ with_order frames (touched f.0 order) tables.old }
 {
     let next = order.touch(f);
-    frames::save_order(tables, frames, next);
+    frames::save_order(tables, frames, &next);
 }
 
 // Page p in a frame, which becomes the latest used.
@@ -170,10 +143,10 @@ fn use_page(
     requires { Shaped (areas fixed.now marks.now log.now stored.now tables.old online.now pool.old) × (p.0 < pages_of (areas fixed.now marks.now log.now stored.now tables.old online.now pool.old)) }
     ensures { PageUsed (areas fixed.now marks.now log.now stored.now tables.old online.now pool.old) p.0 result.frame.0 result.reads tables.new pool.new (read_tables (areas fixed.now marks.now log.now stored.now tables.old online.now pool.old) p.0) }
 {
-    let s = load_sizes(fixed);
-    let frames = s.frames;
+    let given = layout::params_of(fixed);
+    let frames = given.frames as usize;
     let order = frames::load_order(tables, frames);
-    let got = fetch(fixed, marks, log, stored, tables, online, pool, order, p);
+    let got = fetch(fixed, marks, log, stored, tables, online, pool, &order, p);
     let f = got.frame;
     make_latest(tables, frames, order, f);
     got
@@ -206,8 +179,8 @@ pub fn read(
     requires { Shaped (areas fixed.now marks.now log.now stored.now tables.old online.now pool.old) × (p.0 < pages_of (areas fixed.now marks.now log.now stored.now tables.old online.now pool.old)) × (offset + w ≤ size_of (areas fixed.now marks.now log.now stored.now tables.old online.now pool.old)) × (w ≤ length buffer.old) }
     ensures { ReadDone (areas fixed.now marks.now log.now stored.now tables.old online.now pool.old) p.0 offset w result tables.new pool.new buffer.old buffer.new }
 {
-    let s = load_sizes(fixed);
-    let size = s.size;
+    let given = layout::params_of(fixed);
+    let size = given.size as usize;
     let got = use_page(fixed, marks, log, stored, tables, online, pool, p);
     let f = got.frame;
     copy_out(pool, size, f, offset, w, buffer);
@@ -225,8 +198,8 @@ fn mark_dirty(tables: &mut [u8], frames: usize, f: FrameNo, p: PageNo)
 
 // Page p in frame f has one online record more, and the frame becomes the latest used.
 fn note_change(tables: &mut [u8], frames: usize, order: Order, f: FrameNo, p: PageNo, m: usize)
-    requires { (entry_at frames p.0 < length tables.old) × (frames ≤ 64) × (order.used ≤ 64) × (f.0 < 64) × (m < 65536) }
-    ensures { tables.new ≡ with_count (m + 1) (with_order frames (touched f.0 (list_of order)) (set tables.old (entry_at frames p.0) (dirty_in f.0))) }
+    requires { (entry_at frames p.0 < length tables.old) × (frames ≤ 64) × (length order ≤ 64) × (f.0 < 64) × (m < 65536) }
+    ensures { tables.new ≡ with_count (m + 1) (with_order frames (touched f.0 order) (set tables.old (entry_at frames p.0) (dirty_in f.0))) }
 {
     mark_dirty(tables, frames, f, p);
     make_latest(tables, frames, order, f);
@@ -247,24 +220,24 @@ fn change_page(
     requires { Shaped (areas fixed.now marks.now log.now stored.now tables.old online.now pool.old) × (p.0 < pages_of (areas fixed.now marks.now log.now stored.now tables.old online.now pool.old)) }
     ensures { PageUsed (areas fixed.now marks.now log.now stored.now tables.old online.now pool.old) p.0 result.frame.0 result.reads tables.new pool.new (update_tables (areas fixed.now marks.now log.now stored.now tables.old online.now pool.old) p.0) }
 {
-    let s = load_sizes(fixed);
-    let frames = s.frames;
+    let given = layout::params_of(fixed);
+    let frames = given.frames as usize;
     let m = count_of(tables);
     let order = frames::load_order(tables, frames);
-    let got = fetch(fixed, marks, log, stored, tables, online, pool, order, p);
+    let got = fetch(fixed, marks, log, stored, tables, online, pool, &order, p);
     let f = got.frame;
     note_change(tables, frames, order, f, p, m);
     got
 }
 
-// Online row m, applied to the page in frame f: the frame's bytes, lent on by themselves.
-fn apply_in(pool: &mut [u8], size: usize, f: FrameNo, online: &[u8], m: usize)
-    requires { (f.0 * size + size ≤ length pool.old) × (m * online_width + online_width ≤ length online.now) }
-    ensures { pool.new ≡ with_page size f.0 pool.old (apply (row_at online_width online.now m) (page_in size f.0 pool.old)) }
+// A row, applied to the page in frame f: the frame's bytes, lent on by themselves.
+fn apply_in(pool: &mut [u8], size: usize, f: FrameNo, row: &OnlineRow)
+    requires { f.0 * size + size ≤ length pool.old }
+    ensures { pool.new ≡ with_page size f.0 pool.old (apply row.now (page_in size f.0 pool.old)) }
 {
     let a = f.0 * size;
     let e = a + size;
-    apply::apply_row(online, record::ONLINE_WIDTH, m, &mut pool[a..e]);
+    apply::apply_row(row, &mut pool[a..e]);
 }
 
 // An owner's change of w bytes at an offset of page p: recorded, and made in the page's frame.
@@ -286,12 +259,12 @@ pub fn update(
     requires { Shaped (areas fixed.now marks.now log.now stored.now tables.old online.old pool.old) × (p.0 < pages_of (areas fixed.now marks.now log.now stored.now tables.old online.old pool.old)) × (offset + w ≤ size_of (areas fixed.now marks.now log.now stored.now tables.old online.old pool.old)) × (w ≤ 8) × (count_of (areas fixed.now marks.now log.now stored.now tables.old online.old pool.old) < online_size_of (areas fixed.now marks.now log.now stored.now tables.old online.old pool.old)) × (zeros (drop (count_of (areas fixed.now marks.now log.now stored.now tables.old online.old pool.old) * online_width) online.old) ≡ true) }
     ensures { UpdateDone (areas fixed.now marks.now log.now stored.now tables.old online.old pool.old) (row_of p.0 offset w kind v owner) result tables.new online.new pool.new }
 {
-    let s = load_sizes(fixed);
-    let size = s.size;
+    let given = layout::params_of(fixed);
+    let size = given.size as usize;
     let m = count_of(tables);
     let got = change_page(fixed, marks, log, stored, tables, online, pool, p);
     let f = got.frame;
     table::append(online, m, p, offset, w, kind, v, owner);
-    apply_in(pool, size, f, online, m);
+    apply_in(pool, size, f, row::row_at::<19>(online, m));
     got.reads
 }

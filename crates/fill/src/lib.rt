@@ -7,11 +7,7 @@ ghost use Rattle.std.specs.Prelude.{◌≡◌, length, replicate};
 pub fn wipe(s: &mut [u8])
     ensures { s.new ≡ replicate (length s.old) 0 }
 {
-    let mut i = 0;
-    while i < s.len() {
-        s[i] = 0;
-        i += 1;
-    }
+    s.fill(0);
 }
 
 // All of `from` over all of `to`.
@@ -19,9 +15,7 @@ pub fn copy(to: &mut [u8], from: &[u8])
     requires { length to.old ≡ length from.now }
     ensures { to.new ≡ from.now }
 {
-    let mut i = 0;
-    while i < from.len() {
+    for i in 0..from.len() {
         to[i] = from[i];
-        i += 1;
     }
 }

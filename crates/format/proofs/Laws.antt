@@ -11,10 +11,7 @@ use Rattle.rules.specs.declared.Params.{Params}
 use Rattle.rules.specs.Lent.{stamp_at, lent_of, fixed_of}
 use Rattle.rules.specs.Steps.{stamped, formatted}
 
--- `stamp_all`: none, a turn and the end
-pub stamp_none : (n last : ℕ) (ms : List ℕ) → stamped (n - 0) 0 last ms ≡ stamped n 0 last ms
-stamp_none n last ms = let e : n - 0 ≡ n = omega arith in rw e
-
+-- `stamp_all`: a turn and the end
 pub stamp_turn : (n p last : ℕ) (ms ms' h : List ℕ) → p < n → ms' ≡ put 4 ms (stamp_at p) last → stamped (n - p) p last ms ≡ h → stamped (n - (p + 1)) (p + 1) last ms' ≡ h
 unfolding stamped
 stamp_turn n p last ms ms' h q e inv =
@@ -66,10 +63,6 @@ fixed_made g l₀ l₁ l₂ l₃ l₄ l₅ h a b c d e =
     let three = alike_next 8 g.frames two (omega arith) in
     let four = alike_next 12 g.online three (omega arith) in
     rw (e, d, c, b, a) (alike_whole (alike_next 16 g.log four (omega arith)))
-
-pub marks_made : (pages last : ℕ) (l₀ l₁ l₂ l₃ l₄ : List ℕ) → l₁ ≡ replicate (length l₀) 0 → l₂ ≡ put 4 l₁ 0 last → l₃ ≡ put 4 l₂ 4 last
-    → l₄ ≡ stamped pages 0 last l₃ → l₄ ≡ stamped pages 0 last (put 4 (put 4 (replicate (length l₀) 0) 0 last) 4 last)
-marks_made pages last l₀ l₁ l₂ l₃ l₄ a b c d = rw (d, c, b, a)
 
 -- the seven areas of a fresh store
 pub all_made : (f m l s t o p f' m' l' t' o' : List ℕ) (g : Params) (last : ℕ)

@@ -26,10 +26,8 @@ fn stamp_all(marks: &mut [u8], pages: usize, last: u64)
     requires { (length marks.old ≡ marks_length pages) × (pages ≤ 1024) }
     ensures { marks.new ≡ stamped pages 0 last marks.old }
 {
-    let mut p = 0;
-    while p < pages {
+    for p in 0..pages {
         word::store(marks, layout::STAMPS_AT + 4 * p, 4, last);
-        p += 1;
     }
 }
 

@@ -2,16 +2,16 @@
 // The use order comes out of the tables and goes back into them as a value.
 #![tactic(auto)]
 
-ghost use Rattle.std.specs.Prelude.{◌≡◌, cond, map, ◌+◌, ◌*◌, ◌≤◌, ◌<◌, length};
-ghost use Rattle.order.specs.Meant.{list_of};
+ghost use Rattle.std.specs.Prelude.{◌≡◌, true, false, cond, map, ◌+◌, ◌*◌, ◌≤◌, ◌<◌, length, MatchOption};
 ghost use Rattle.record.specs.Part.{part};
-ghost use Rattle.record.specs.Rows.{rows, keep};
-ghost use Rattle.record.specs.Record.{online_width, on_page, applied};
-ghost use Rattle.rules.specs.Lent.{order_at, used_in, page_in, with_order};
+ghost use Rattle.record.specs.Rows.{keep};
+ghost use Rattle.record.specs.Record.{on_page, applied};
+ghost use Rattle.rules.specs.Lent.{order_at, used_in, in_frame, frame_of, page_in, with_order};
 ghost use Rattle.rules.specs.Steps.{freed, placed};
 
 use number::{FrameNo, PageNo};
 use order::Order;
+use record::row::OnlineRow;
 
 // The stored page, with its online records applied in table order where it was evicted.
 pub fn rebuild(
@@ -19,12 +19,11 @@ pub fn rebuild(
     stored: &[u8],
     size: usize,
     p: PageNo,
-    online: &[u8],
-    m: usize,
+    online: &[OnlineRow],
     evicted: bool,
 )
-    requires { (length g.old ≡ size) × (p.0 * size + size ≤ length stored.now) × (m * online_width ≤ length online.now) }
-    ensures { g.new ≡ cond evicted (applied (keep (on_page p.0) (rows online_width m online.now 0)) (page_in size p.0 stored.now)) (page_in size p.0 stored.now) }
+    requires { (length g.old ≡ size) × (p.0 * size + size ≤ length stored.now) }
+    ensures { g.new ≡ cond evicted (applied (keep (on_page p.0) online.now) (page_in size p.0 stored.now)) (page_in size p.0 stored.now) }
 {
     let a = p.0 * size;
     let e = a + size;
@@ -32,7 +31,7 @@ pub fn rebuild(
     if !evicted {
         return;
     }
-    apply::fold(online, 0, m, p, false, g);
+    apply::fold(online, p, false, g);
 }
 
 // An entry after frame f was freed: clean becomes absent, dirty becomes evicted.
@@ -41,7 +40,21 @@ fn freed_entry(f: FrameNo, e: u8) -> u8
     ensures { result ≡ freed f.0 e }
 {
     let half = e / 2;
-    if half as usize == f.0 + 1 { e % 2 } else { e }
+    if usize::from(half) == f.0 + 1 {
+        e % 2
+    } else {
+        e
+    }
+}
+
+// The frame that an entry names, if it names one.
+pub fn frame_of(e: u8) -> Option<FrameNo>
+    ensures { MatchOption result (in_frame e ≡ false) (λ f. (in_frame e ≡ true) × (f.0 ≡ frame_of e) × (f.0 < 256)) }
+{
+    match e / 2 {
+        0 => None,
+        half => Some(FrameNo(usize::from(half) - 1)),
+    }
 }
 
 // Frees frame f, whichever page it serves.
@@ -49,43 +62,41 @@ pub fn vacate(entries: &mut [u8], f: FrameNo)
     requires { f.0 < 64 }
     ensures { entries.new ≡ map (freed f.0) entries.old }
 {
-    let mut i = 0;
-    while i < entries.len() {
-        entries[i] = freed_entry(FrameNo(f.0), entries[i]);
-        i += 1;
+    for e in entries.iter_mut() {
+        *e = freed_entry(f, *e);
     }
 }
 
 // Page p goes into frame f, which serves no other page any more.
+#[tactic(auto, using(crate::proofs::Laws::place_set))]
 pub fn place(entries: &mut [u8], f: FrameNo, p: PageNo)
     requires { (f.0 < 64) × (p.0 < length entries.old) }
     ensures { entries.new ≡ placed f.0 p.0 entries.old }
 {
     let at = p.0;
     let was = entries[at] % 2;
-    vacate(entries, FrameNo(f.0));
+    vacate(entries, f);
     entries[at] = (2 * (f.0 + 1)) as u8 + was;
 }
 
 // The use order that the tables hold.
 pub fn load_order(tables: &[u8], frames: usize) -> Order
     requires { (order_at + frames ≤ length tables.now) × (used_in tables.now ≤ frames) × (frames ≤ 64) }
-    ensures { (list_of result ≡ part order_at (used_in tables.now) tables.now) × (result.used ≤ 64) }
+    ensures { (result ≡ part order_at (used_in tables.now) tables.now) × (length result ≤ 64) }
 {
     let e = layout::ORDER_AT + frames;
     order::load(
         &tables[layout::ORDER_AT..e],
-        tables[layout::USED_AT] as usize,
+        usize::from(tables[layout::USED_AT]),
     )
 }
 
 // The tables with another use order.
-pub fn save_order(tables: &mut [u8], frames: usize, order: Order)
-    requires { (order_at + frames ≤ length tables.old) × (frames ≤ 64) × (order.used ≤ 65) }
-    ensures { tables.new ≡ with_order frames (list_of order) tables.old }
+pub fn save_order(tables: &mut [u8], frames: usize, order: &Order)
+    requires { (order_at + frames ≤ length tables.old) × (frames ≤ 64) }
+    ensures { tables.new ≡ with_order frames order.now tables.old }
 {
     let e = layout::ORDER_AT + frames;
-    let used = order.used;
     order.save(&mut tables[layout::ORDER_AT..e]);
-    tables[layout::USED_AT] = used as u8;
+    tables[layout::USED_AT] = order.len() as u8;
 }

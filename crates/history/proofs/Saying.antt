@@ -1,4 +1,5 @@
 -- The verdicts: a transaction call on bytes that are right for a history is answered as the history says, but that a full table may refuse an update or a commit.
+use Rattle.std.specs.Prelude.{Ok, Err}
 use Prim.Native.Nat.{ℕ, ◌+◌}
 use native.Mathlib.Omega.{arith}
 use mathlib.Core.Path.{◌≡◌, refl, sym, ap, ◌∙◌}
@@ -11,8 +12,7 @@ use borrow.Author.Tests.{not-false, le-ltb}
 use Rattle.record.specs.Record.{row_of}
 use Rattle.rules.specs.declared.Refusal.{Refusal}
 use Rattle.rules.specs.declared.Refusal.TheVariants.{NotSound, NotLive, Live, Held, OnlineFull, LogFull, NumbersEnd}
-use Rattle.rules.specs.declared.Verdict.{Verdict}
-use Rattle.rules.specs.declared.Verdict.TheVariants.{Go, Refuse}
+use Rattle.rules.specs.Calls.{Verdict}
 use Rattle.rules.specs.Lent.{Lent, size_of, pages_of, online_size_of, log_size_of, last_of, logged_of, count_of, online_of}
 use Rattle.rules.specs.Steps.{owned}
 use Rattle.rules.specs.Calls.{Test, ◌when◌, refuse_if, verdict_of, unsound, no_room, is_number, is_live, begin_refusals, read_refusals, update_refusals, commit_refusals, abort_refusals, judge_begin, judge_read, judge_update, judge_commit, judge_abort}
@@ -25,7 +25,7 @@ use Rattle.history.proofs.Known.{size_read, pages_read, last_read, live_read, re
 
 -- the same verdict, unless it is this refusal
 abbrev pub Unless : Refusal → Verdict → Verdict → Type 0
-Unless r v w = (v ≡ w) ⊎ (v ≡ Refuse r)
+Unless r v w = (v ≡ w) ⊎ (v ≡ Err r)
 
 -- where a table is full that the other never is
 unless_full : (r : Refusal) (b c : Bool) (v : Verdict) → c ≡ false → Unless r (refuse_if b r v) (refuse_if c r v)
@@ -89,7 +89,7 @@ module _ (g : Ground) (done : List (List ℕ)) (h : Past) (s : Lent) (c : Right 
         ∙ (λ i. verdict_of (updates (size_read g done h s c i) (pages_read g done h s c i) (online_size_of s) (count_of s) (is_live s.lost.tables) (online_of s)))
         ∙ past_all ◌≡◌ (λ v. refl) (take 6 l) (drop 6 l) (drop 6 k)
         (λ f i. verdict_of (NotLive when not (live_of x (f 1) i) ∷ Held when update_held g done h s c (row_of p offset w kind v x) i ∷ OnlineFull when no_room (online_size_of s) (count_of s) 1 ∷ [])))
-        (past_all (Unless OnlineFull) (λ v. inl refl) (take 8 k) (drop 8 k) (drop 8 (updates h.size h.pages 1 0 h.live h.made)) (λ f. unless_full OnlineFull (no_room (online_size_of s) (count_of s) 1) (no_room 1 0 1) Go refl))
+        (past_all (Unless OnlineFull) (λ v. inl refl) (take 8 k) (drop 8 k) (drop 8 (updates h.size h.pages 1 0 h.live h.made)) (λ f. unless_full OnlineFull (no_room (online_size_of s) (count_of s) 1) (no_room 1 0 1) (Ok tt) refl))
 
   -- and how long the log is
   module _ (x : ℕ) where

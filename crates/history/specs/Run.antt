@@ -1,11 +1,10 @@
 -- How a store comes by its bytes: an accepted format, then calls with any arguments, accepted or refused, and power losses. docs/RULES.md 9 and 10.
-use Rattle.std.specs.Prelude.{ℕ, ◌+◌, ◌≤◌, ◌≡◌, false, cond, List, length, leb}
+use Rattle.std.specs.Prelude.{ℕ, ◌+◌, ◌≤◌, ◌≡◌, false, cond, List, length, leb, Ok}
 use Rattle.record.specs.Record.{row_of}
 use Rattle.rules.specs.declared.Params.{Params}
 use Rattle.rules.specs.declared.Refusal.{Refusal}
 use Rattle.rules.specs.declared.Answer.{Answer}
 use Rattle.rules.specs.declared.Answer.TheVariants.{Done, NotDue, Refused}
-use Rattle.rules.specs.declared.Verdict.TheVariants.{Go}
 use Rattle.rules.specs.Lent.{Lent, Lost, pages_of}
 use Rattle.rules.specs.Steps.{after_pages, checkpointed}
 use Rattle.rules.specs.Calls.{Outcome, begin_call, read_call, update_call, commit_call, abort_call, evict_call, compact_call, close_call, checkpoint_call, restart_call, format_call, judge_checkpoint}
@@ -77,4 +76,4 @@ pub data Run : Past → Lent → Type 0 where
   restart : {h : Past} {s : Lent} → Run h s → Run (told h Restart (restart_call s).answer) (restart_call s).lent
   -- a power loss between calls, and inside a checkpoint
   loss : {h : Past} {s : Lent} → Run h s → (l : Lost) → Fits s l → Run (falls h) (after_loss s l)
-  loss_inside : {h : Past} {s : Lent} → Run h s → h.down ≡ false → (min_del max_age j : ℕ) → judge_checkpoint s min_del max_age ≡ Go → j ≤ pages_of s + 1 → (l : Lost) → Fits s l → Run (falls h) (after_loss (after_steps min_del max_age j s) l)
+  loss_inside : {h : Past} {s : Lent} → Run h s → h.down ≡ false → (min_del max_age j : ℕ) → judge_checkpoint s min_del max_age ≡ Ok tt → j ≤ pages_of s + 1 → (l : Lost) → Fits s l → Run (falls h) (after_loss (after_steps min_del max_age j s) l)

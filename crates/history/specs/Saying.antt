@@ -2,7 +2,7 @@
 use Rattle.std.specs.Prelude.{ℕ, length}
 use Rattle.record.specs.Rows.{keep}
 use Rattle.record.specs.Record.{owned_by}
-use Rattle.rules.specs.declared.Verdict.{Verdict}
+use Rattle.rules.specs.Calls.{Verdict}
 use Rattle.rules.specs.Calls.{verdict_of, begin_refusals, read_refusals, update_refusals, commit_refusals, abort_refusals}
 use Rattle.history.specs.Past.{Past}
 

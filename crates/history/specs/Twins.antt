@@ -1,12 +1,11 @@
 -- Demand 3's two stores: formatted alike but for their table sizes, and driven side by side with the same transaction calls. docs/RULES.md 10.
 -- Each keeps house by itself: what it evicts, compacts and closes, and when, is its own.
-use Rattle.std.specs.Prelude.{ℕ, ◌+◌, ◌≤◌, ◌≡◌, Bool, true, false, ◌||◌, eqb}
+use Rattle.std.specs.Prelude.{ℕ, ◌+◌, ◌≤◌, ◌≡◌, Bool, true, false, ◌||◌, eqb, Ok}
 use Rattle.rules.specs.declared.Params.{Params}
 use Rattle.rules.specs.declared.Counts.{Counts}
 use Rattle.rules.specs.declared.Refusal.{Refusal}
 use Rattle.rules.specs.declared.Answer.{Answer}
 use Rattle.rules.specs.declared.Answer.TheVariants.{Done, NotDue, Refused}
-use Rattle.rules.specs.declared.Verdict.TheVariants.{Go}
 use Rattle.rules.specs.Answers.{code_of}
 use Rattle.rules.specs.Lent.{Lent, Lost, pages_of}
 use Rattle.rules.specs.Calls.{restart_call, format_call, judge_checkpoint}
@@ -63,7 +62,7 @@ pub data Aside (h : Past) (s : Lent) : Lent → Type 0 where
 -- a power loss of one store: between calls, or inside a checkpoint of its own
 pub data Loses (h : Past) (s : Lent) : Lent → Type 0 where
   between_calls : (l : Lost) → Fits s l → Loses h s (after_loss s l)
-  inside : h.down ≡ false → (min_del max_age j : ℕ) → judge_checkpoint s min_del max_age ≡ Go → j ≤ pages_of s + 1 → (l : Lost) → Fits s l → Loses h s (after_loss (after_steps min_del max_age j s) l)
+  inside : h.down ≡ false → (min_del max_age j : ℕ) → judge_checkpoint s min_del max_age ≡ Ok tt → j ≤ pages_of s + 1 → (l : Lost) → Fits s l → Loses h s (after_loss (after_steps min_del max_age j s) l)
 
 -- two stores with one history, neither of which has said 7 or 8 to a transaction call
 pub data Twins : Past → Lent → Lent → Type 0 where

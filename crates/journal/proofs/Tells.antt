@@ -1,27 +1,35 @@
--- Laws of the calls' numbers and of what C is told, and the ranges of the sizes.
-use Rattle.std.proofs.Common.{◌≡◌, ℕ, zero, suc, ◌/◌, ◌%◌, ◌≤◌, Bool, true, false, ◌&&◌, ◌||◌, eqb, leb, List, refl, arith, eqb-true, leb-true}
+-- Laws of the refusals, and the ranges of the sizes.
+use Rattle.std.proofs.Common.{◌≡◌, ℕ, ◌/◌, ◌%◌, ◌≤◌, Bool, true, false, ◌&&◌, ◌||◌, eqb, leb, Result, Ok, Err, refl, arith, eqb-true, leb-true}
 use Rattle.word.proofs.Tests.{and_both, among_four}
 use Rattle.journal.specs.Layout.{is_size, is_sector, whole_pages}
-use Rattle.journal.specs.Calls.{Outcome, refuse_if, settled, Told}
+use Rattle.journal.specs.declared.Refusal.{Refusal}
+use Rattle.journal.specs.declared.Refusal.TheVariants.{ShortTarget, EmptyList, BadPage, BadParameter, BadLength, BadHeader, WrongPage}
+use Rattle.journal.specs.Answers.{code_of}
+use Rattle.journal.specs.Calls.{refuse_if}
 
 -- a test that holds, one that does not, and a call that is not refused
-pub refused_by : (b : Bool) (code next : ℕ) → b ≡ true → code ≡ refuse_if b code next
+pub refused_by : {A : Type 0} (b : Bool) (r : Refusal) (next : Result A Refusal) → b ≡ true → Err r ≡ refuse_if b r next
 unfolding refuse_if
-refused_by b code next h = rw h
+refused_by b r next h = rw h
 
-pub passed_by : (b : Bool) (code next n : ℕ) → b ≡ false → n ≡ next → n ≡ refuse_if b code next
+pub passed_by : {A : Type 0} (b : Bool) (r : Refusal) (next v : Result A Refusal) → b ≡ false → v ≡ next → v ≡ refuse_if b r next
 unfolding refuse_if
-passed_by b code next n h e = rw h e
+passed_by b r next v h e = rw h e
 
-pub went_by : (b : Bool) (code next : ℕ) → refuse_if b (suc code) next ≡ 0 → (b ≡ false) × (next ≡ 0)
+pub went_by : {A : Type 0} (b : Bool) (r : Refusal) (next : Result A Refusal) (x : A) → refuse_if b r next ≡ Ok x → (b ≡ false) × (next ≡ Ok x)
 unfolding refuse_if
-went_by true code next h = absurd (omega arith)
-went_by false code next h = (refl, h)
+went_by true r next x h = let z : ◌≡◌ {A = ℕ} 0 1 = cc in absurd (omega arith)
+went_by false r next x h = (refl, h)
 
--- a refusal as C is told it
-pub told_no : (code n : ℕ) (l : List ℕ) (o : Outcome) → code ≡ n → (code ≡ 0 → ⊥) → Told (settled n l o) (record { code = code; ended = 0; records = 0 }) l
-told_no zero n l o e h = absurd (h refl)
-told_no (suc c) n l o e h = rw (← e) (record { reply = refl; bytes = refl })
+-- no refusal's number is that of a call that is done
+pub code_some : (r : Refusal) → code_of r ≡ 0 → ⊥
+code_some ShortTarget h = omega arith
+code_some EmptyList h = omega arith
+code_some BadPage h = omega arith
+code_some BadParameter h = omega arith
+code_some BadLength h = omega arith
+code_some BadHeader h = omega arith
+code_some WrongPage h = omega arith
 
 -- the sizes' ranges
 pub size_range : (n : ℕ) → is_size n ≡ true → (512 ≤ n) × (n ≤ 4096)

@@ -1,23 +1,21 @@
 -- Laws of a journal that is written: lengths, pages that are lent, and what a call that is not refused tells.
-use Rattle.std.proofs.Common.{◌≡◌, ℕ, zero, suc, ◌+◌, ◌-◌, ◌*◌, ◌/◌, ◌<◌, ◌≤◌, Bool, true, false, ◌&&◌, ◌||◌, ltb, leb, List, [], ◌∷◌, ◌++◌, length, get_or, replicate, refl, ap, ◌∙◌, add-mul, one-mul, le-div_iff_mul-le, arith, length-append, ltb-false, leb-true}
+use Rattle.std.proofs.Common.{◌≡◌, ℕ, zero, suc, ◌+◌, ◌-◌, ◌*◌, ◌/◌, ◌<◌, ◌≤◌, Bool, true, false, ◌&&◌, ◌||◌, ltb, leb, List, [], ◌∷◌, ◌++◌, Ok, length, get_or, replicate, refl, ap, ◌∙◌, add-mul, one-mul, le-div_iff_mul-le, arith, length-append, ltb-false, leb-true}
 use lib.ListN.{length-replicate}
 use borrow.Author.Tests.{not-false}
 use Rattle.word.proofs.Tests.{and_both}
+use Rattle.word.specs.Big.{bytes_of}
+use Rattle.word.proofs.Bigs.{length_bytes}
 use Rattle.record.specs.Part.{part}
 use Rattle.record.proofs.Parts.{length_part}
-use Rattle.journal.specs.Layout.{is_size, is_sector, whole_pages, first_bytes, bytes_of, header_bytes, Saved, record_bytes, checksum}
+use Rattle.journal.specs.Layout.{is_size, is_sector, whole_pages, first_bytes, header_bytes, Saved, record_bytes, checksum}
 use Rattle.journal.specs.Writing.{any_past, journal_length}
-use Rattle.journal.specs.Calls.{write_code}
+use Rattle.journal.specs.Calls.{judge_write}
 use Rattle.journal.proofs.Tells.{went_by, size_range, sector_range, pages_range}
 
 -- neither of two tests
 pub neither : (a b : Bool) → (a || b) ≡ false → (a ≡ false) × (b ≡ false)
 neither false b h = (refl, h)
 neither true b h = let z : ◌≡◌ {A = ℕ} 0 1 = cc in absurd (omega arith)
-
-pub length_bytes : (v : ℕ) → length (bytes_of v) ≡ 4
-unfolding bytes_of
-length_bytes v = refl
 
 pub length_header : (count nonce pages sector size : ℕ) → 28 ≤ sector → length (header_bytes count nonce pages sector size) ≡ sector
 unfolding header_bytes first_bytes bytes_of
@@ -66,13 +64,13 @@ pub record Fit (list : List ℕ) (lent room size sector : ℕ) : Type 0 where
   pub pages : lent / size ≤ 1024
   pub space : journal_length sector size (length list) ≤ room
 
-pub fit : (list : List ℕ) (lent room size sector : ℕ) → write_code list lent room size sector ≡ 0 → Fit list lent room size sector
-unfolding write_code
+pub fit : (list : List ℕ) (lent room size sector : ℕ) → judge_write list lent room size sector ≡ Ok tt → Fit list lent room size sector
+unfolding judge_write
 fit list lent room size sector z =
-    let a = went_by _ 19 _ z in
-    let b = went_by _ 25 _ a.1 in
-    let c = went_by _ 26 _ b.1 in
-    let d = went_by _ 13 _ c.1 in
+    let a = went_by _ _ _ _ z in
+    let b = went_by _ _ _ _ a.1 in
+    let c = went_by _ _ _ _ b.1 in
+    let d = went_by _ _ _ _ c.1 in
     let e = and_both (is_size size && is_sector sector) (leb (length list) 4294967294) (not-false (is_size size && is_sector sector && leb (length list) 4294967294) b.0) in
     let f = and_both (is_size size) (is_sector sector) e.0 in
     let s = size_range size f.0 in

@@ -1,9 +1,10 @@
 -- A worked example, by computation on the definitions: page size 512, sector size 32, nonce fffffff0, one page with byte j = j mod 256.
 use Rattle.std.specs.Prelude.{◌≡◌, ℕ, zero, suc, ◌+◌, ◌%◌, List, [], ◌∷◌, ◌++◌, length, take, replicate, slice_index, slice_set, refl}
-use Rattle.journal.specs.Layout.{big, bytes_of, first_bytes, is_size, is_sector, whole_pages, same, is_header, spaced, checksum, records, record_bytes, records_bytes, header_bytes}
+use Rattle.word.specs.Big.{big, bytes_of}
+use Rattle.journal.specs.Layout.{first_bytes, is_size, is_sector, whole_pages, same, is_header, spaced, checksum, records, record_bytes, records_bytes, header_bytes}
 use Rattle.journal.specs.Playing.{counted, fault_of, run, run_of, to_restore, outside, with_saved, restored}
 use Rattle.journal.specs.Writing.{any_past, journal_bytes}
-use Rattle.journal.specs.Calls.{Outcome, refuse_if, play_code, play_call, write_code, write_call}
+use Rattle.journal.specs.Calls.{Outcome, refuse_if, judge_play, play_call, judge_write, write_call}
 
 -- n bytes i, i + 1, … by remainder of 256
 unfoldable pub counting : ℕ → ℕ → List ℕ
@@ -37,12 +38,12 @@ bytes_of_it = refl
 
 -- written to a target of 555 bytes, of which the last three stay
 pub is_written : (written (replicate 555 9)).bytes ≡ file ++ (9 ∷ 9 ∷ 9 ∷ [])
-unfolding write_call write_code refuse_if any_past is_size is_sector whole_pages journal_bytes header_bytes records_bytes record_bytes first_bytes bytes_of checksum spaced file page counting
+unfolding write_call judge_write refuse_if any_past is_size is_sector whole_pages journal_bytes header_bytes records_bytes record_bytes first_bytes bytes_of checksum spaced file page counting
 is_written = refl
 
 -- played over a page of other bytes
 pub is_played : (played file).bytes ≡ page
-unfolding play_call play_code refuse_if is_size is_sector whole_pages is_header same first_bytes big run_of run counted fault_of to_restore records outside restored with_saved checksum spaced file page counting
+unfolding play_call judge_play refuse_if is_size is_sector whole_pages is_header same first_bytes big run_of run counted fault_of to_restore records outside restored with_saved checksum spaced file page counting
 is_played = refl
 
 -- Further cases, with expected values worked out by hand: two lent pages of the byte 7, nonce 0, sector size 32. The checksum of a page of one
@@ -105,7 +106,7 @@ pub plays :
     ∷ (27 ∷ 0 ∷ 0 ∷ 7 ∷ 7 ∷ 7 ∷ [])
     ∷ (26 ∷ 0 ∷ 0 ∷ 7 ∷ 7 ∷ 7 ∷ [])
     ∷ []
-unfolding ones play_call play_code refuse_if is_size is_sector whole_pages is_header same first_bytes big run_of run counted fault_of to_restore records outside restored with_saved checksum spaced
+unfolding ones play_call judge_play refuse_if is_size is_sector whole_pages is_header same first_bytes big run_of run counted fault_of to_restore records outside restored with_saved checksum spaced
 plays = refl
 
 -- refusals of writing, each where the later ones hold too: a page past the lent ones, a size, lengths, the target, the list
@@ -117,5 +118,5 @@ pub writes :
     ∷ wrote 1024 (1 ∷ 1 ∷ []) 1072 512 32 ∷ []
     ≡ (20 ∷ 0 ∷ 0 ∷ 0 ∷ 0 ∷ 0 ∷ []) ∷ (26 ∷ 0 ∷ 0 ∷ 0 ∷ 0 ∷ 0 ∷ []) ∷ (27 ∷ 0 ∷ 0 ∷ 0 ∷ 0 ∷ 0 ∷ []) ∷ (14 ∷ 0 ∷ 0 ∷ 3 ∷ 0 ∷ 0 ∷ []) ∷ (15 ∷ 0 ∷ 0 ∷ 3 ∷ 0 ∷ 0 ∷ []) ∷ (14 ∷ 0 ∷ 0 ∷ 3 ∷ 3 ∷ 3 ∷ [])
     ∷ (0 ∷ 0 ∷ 2 ∷ 0xd9 ∷ 7 ∷ 7 ∷ []) ∷ []
-unfolding write_call write_code refuse_if any_past is_size is_sector whole_pages journal_bytes header_bytes records_bytes record_bytes first_bytes bytes_of checksum spaced
+unfolding write_call judge_write refuse_if any_past is_size is_sector whole_pages journal_bytes header_bytes records_bytes record_bytes first_bytes bytes_of checksum spaced
 writes = refl

@@ -1,14 +1,8 @@
 -- SQLite's rollback journal by its bytes (docs/JOURNAL.md): a header in a sector of its own, then records of page number, page, checksum.
--- Pages are numbered from 1 in the file.
-use Rattle.std.specs.Prelude.{ℕ, zero, suc, ◌+◌, ◌-◌, ◌*◌, ◌/◌, ◌%◌, ◌^◌, Bool, true, false, ◌&&◌, ◌||◌, List, [], ◌∷◌, ◌++◌, length, take, drop, replicate, ◌==◌, nat_le, slice_index}
+-- Pages are numbered from 1 in the file. "All numbers 4 bytes, highest byte first": `big` and `bytes_of` of crate word.
+use Rattle.std.specs.Prelude.{ℕ, zero, suc, ◌+◌, ◌-◌, ◌/◌, ◌%◌, ◌^◌, Bool, true, false, ◌&&◌, ◌||◌, List, [], ◌∷◌, ◌++◌, length, take, drop, replicate, ◌==◌, nat_le, slice_index}
+use Rattle.word.specs.Big.{big, bytes_of}
 use Rattle.record.specs.Part.{part}
-
--- "All numbers 4 bytes, highest byte first": the number at a place, and a number's bytes
-unfoldable pub big : List ℕ → ℕ → ℕ
-big l at = slice_index l at * 16777216 + slice_index l (at + 1) * 65536 + slice_index l (at + 2) * 256 + slice_index l (at + 3)
-
-unfoldable pub bytes_of : ℕ → List ℕ
-bytes_of v = v / 16777216 % 256 ∷ v / 65536 % 256 ∷ v / 256 % 256 ∷ v % 256 ∷ []
 
 -- d9 d5 05 f9 20 a1 63 d7
 unfoldable pub first_bytes : List ℕ

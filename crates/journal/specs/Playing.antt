@@ -1,6 +1,9 @@
 -- Playing a journal back over lent pages: which records of its first header are restored, and what the pages are then.
-use Rattle.std.specs.Prelude.{ℕ, zero, suc, ◌+◌, ◌-◌, ◌*◌, ◌/◌, Bool, false, cond, ◌||◌, List, [], ◌∷◌, length, drop, ◌==◌, nat_lt}
+use Rattle.std.specs.Prelude.{ℕ, zero, suc, ◌+◌, ◌-◌, ◌*◌, ◌/◌, Bool, false, cond, ◌||◌, List, [], ◌∷◌, length, drop, ◌==◌, nat_lt, Option, None, Some}
 use Rattle.record.specs.Part.{part, with_part}
+use Rattle.journal.specs.declared.Fault.{Fault}
+use Rattle.journal.specs.declared.Fault.TheVariants.{CutShort, BadSum}
+use Rattle.journal.specs.declared.Run.{Run}
 use Rattle.journal.specs.Layout.{count_of, nonce_of, sector_of, checksum, Saved, sum_of, records}
 
 -- what follows the header's sector
@@ -11,22 +14,18 @@ body_of j = drop (sector_of j) j
 unfoldable pub counted : ℕ → List ℕ → ℕ
 counted size j = cond (count_of j == 4294967295) (length (body_of j) / (size + 8)) (count_of j)
 
--- the record at the front of these bytes: 1 it is cut short, 2 its checksum is wrong, 0 neither
-unfoldable pub fault_of : ℕ → ℕ → List ℕ → ℕ
-fault_of nonce size l = cond (nat_lt (length l) (size + 8)) 1 (cond (sum_of size l == checksum nonce size (part 4 size l)) 0 2)
+-- the record at the front of these bytes: it is cut short, its checksum is wrong, or neither
+unfoldable pub fault_of : ℕ → ℕ → List ℕ → Option Fault
+fault_of nonce size l = cond (nat_lt (length l) (size + 8)) (Some CutShort) (cond (sum_of size l == checksum nonce size (part 4 size l)) None (Some BadSum))
 
--- "every record before the first with a bad checksum or cut short": how many, and what ended them (0: the header's count)
-pub record Run : Type 0 where
-  pub count : ℕ
-  pub ended : ℕ
-
-abbrev pub go_on : ℕ → Run → Run
-go_on zero r = record { count = suc r.count; ended = r.ended }
-go_on (suc k) r = record { count = 0; ended = suc k }
+-- "every record before the first with a bad checksum or cut short": how many, and what ended them (none: the header's count)
+abbrev pub go_on : Option Fault → Run → Run
+go_on None r = record { count = suc r.count; ended = r.ended }
+go_on (Some f) r = record { count = 0; ended = Some f }
 
 -- of n records at the front of these bytes
 unfoldable pub run : ℕ → ℕ → ℕ → List ℕ → Run
-run zero nonce size l = record { count = 0; ended = 0 }
+run zero nonce size l = record { count = 0; ended = None }
 run (suc n) nonce size l = go_on (fault_of nonce size l) (run n nonce size (drop (size + 8) l))
 
 -- of the first header

@@ -1,12 +1,12 @@
 -- Writing a journal for a list of pages, which are numbered from 0 there.
-use Rattle.std.specs.Prelude.{ℕ, ◌+◌, ◌*◌, ◌/◌, Bool, false, ◌||◌, List, [], ◌∷◌, ◌++◌, map, length, nat_lt}
+use Rattle.std.specs.Prelude.{ℕ, ◌+◌, ◌*◌, ◌/◌, Bool, List, ◌++◌, map, length, nat_lt}
+use Rattle.std.specs.List.{list_any}
 use Rattle.record.specs.Part.{part}
 use Rattle.journal.specs.Layout.{Saved, header_bytes, records_bytes}
 
 -- a listed page lies past so many lent bytes
 unfoldable pub any_past : ℕ → ℕ → List ℕ → Bool
-any_past lent size [] = false
-any_past lent size (p ∷ ps) = nat_lt lent ((p + 1) * size) || any_past lent size ps
+any_past lent size list = list_any (λ p. nat_lt lent ((p + 1) * size)) list
 
 -- a page as it is
 abbrev pub saved_page : ℕ → List ℕ → ℕ → Saved

@@ -11,7 +11,7 @@ pub fn checksum_of(page: &[u8], nonce: u32) -> u32
     // the places from at on are summed
     while 200 < at {
         at -= 200;
-        sum = std::num::wrapping_add_u32(sum, crate::big::wide(page[at]));
+        sum = sum.wrapping_add(u32::from(page[at]));
     }
     sum
 }

@@ -8,10 +8,13 @@ use lib.ListN.{length, take, drop, length-append}
 use lib.Seq.{take_at, drop_at}
 use borrow.Author.Tests.{eq-eqb, le-ltb, le-leb}
 use Rattle.record.specs.Part.{part}
-use Rattle.journal.specs.Layout.{big, bytes_of, first_bytes, count_of, nonce_of, sector_of, size_of, is_sector, same, is_header, checksum, Saved, saved_of, sum_of, records, record_bytes, records_bytes, header_bytes}
-use Rattle.journal.specs.Playing.{fault_of, Run, run}
-use Rattle.journal.proofs.Laws.{big_front, big_drop}
-use Rattle.journal.proofs.Writes.{length_bytes, length_header, length_record}
+use Rattle.word.specs.Big.{big, bytes_of}
+use Rattle.word.proofs.Bigs.{big_front, big_drop, length_bytes}
+use Rattle.journal.specs.Layout.{first_bytes, count_of, nonce_of, sector_of, size_of, is_sector, same, is_header, checksum, Saved, saved_of, sum_of, records, record_bytes, records_bytes, header_bytes}
+use Rattle.std.specs.Prelude.{None}
+use Rattle.journal.specs.declared.Run.{Run}
+use Rattle.journal.specs.Playing.{fault_of, run}
+use Rattle.journal.proofs.Writes.{length_header, length_record}
 
 -- the header's fields
 module _ (count nonce pages sector size : ℕ) (l : List ℕ) where
@@ -85,7 +88,7 @@ module _ (nonce size : ℕ) (r : Saved) (rest : List ℕ) (long : length r.image
   pub reads_next : drop (size + 8) (record_bytes nonce size r ++ rest) ≡ rest
   reads_next = drop_at (record_bytes nonce size r) rest (size + 8) long_record
 
-  pub reads_fine : fault_of nonce size (record_bytes nonce size r ++ rest) ≡ 0
+  pub reads_fine : fault_of nonce size (record_bytes nonce size r ++ rest) ≡ None
   unfolding fault_of sum
   reads_fine =
       let a : length (record_bytes nonce size r ++ rest) ≡ length (record_bytes nonce size r) + length rest = length-append (record_bytes nonce size r) rest in
@@ -99,7 +102,7 @@ pub data Fine (size : ℕ) : List Saved → Type 0 where
   more : {r : Saved} {rs : List Saved} → length r.image ≡ size → r.number < 4294967296 → Fine size rs → Fine size (r ∷ rs)
 
 -- all of them
-pub reads_run : (nonce size : ℕ) (rs : List Saved) (rest : List ℕ) → Fine size rs → run (length rs) nonce size (records_bytes nonce size rs ++ rest) ≡ record { count = length rs; ended = 0 }
+pub reads_run : (nonce size : ℕ) (rs : List Saved) (rest : List ℕ) → Fine size rs → run (length rs) nonce size (records_bytes nonce size rs ++ rest) ≡ record { count = length rs; ended = None }
 unfolding run records_bytes
 reads_run nonce size [] rest none = refl
 reads_run nonce size (r ∷ rs) rest (more long small f) =

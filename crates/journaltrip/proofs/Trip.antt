@@ -1,5 +1,5 @@
 -- The theorem: written, then the pages changed in any way, then played back.
-use Prim.Native.Nat.{ℕ, zero, suc, ◌+◌, ◌*◌, ◌/◌, ◌%◌, ◌^◌, ◌≤◌, ◌<◌}
+use Prim.Native.Nat.{ℕ, suc, ◌+◌, ◌*◌, ◌/◌, ◌%◌, ◌^◌, ◌≤◌, ◌<◌}
 use native.Mathlib.Omega.{arith}
 use native.Mathlib.Nat.{le-div_iff_mul-le}
 use mathlib.Core.Path.{◌≡◌, refl, sym, ap, ◌∙◌, subst}
@@ -9,21 +9,24 @@ use lib.ListN.{length, drop}
 use lib.Seq.{drop_at}
 use lib.Dec.{ltb}
 use borrow.Author.Tests.{ne_eqb, le-ltb, ltb-false}
+use Rattle.std.specs.Prelude.{None, Result, Ok, Err}
+use Rattle.journal.specs.declared.Refusal.{Refusal}
+use Rattle.journal.specs.declared.Run.{Run}
 use Rattle.journal.specs.declared.Reply.{Reply}
 use Rattle.journal.specs.Layout.{is_size, whole_pages, is_header, nonce_of, Saved, records, header_bytes, records_bytes}
-use Rattle.journal.specs.Playing.{body_of, counted, Run, run, run_of, to_restore, outside, restored}
+use Rattle.journal.specs.Playing.{body_of, counted, run, run_of, to_restore, outside, restored}
 use Rattle.journal.specs.Writing.{any_past, saved_page, journal_length, journal_bytes}
-use Rattle.journal.specs.Calls.{Outcome, settled, play_code, play_call, write_code, write_call, Told}
-use Rattle.journal.proofs.Tells.{passed_by}
+use Rattle.journal.specs.Calls.{Outcome, settled, judge_play, play_call, judge_write, write_call, Told}
+use Rattle.journal.proofs.Tells.{passed_by, code_some}
 use Rattle.journal.proofs.Writes.{neither, length_page, page_small, length_header, Fit, fit}
 use Rattle.journaltrip.specs.Trip.{BroughtBack}
 use Rattle.journaltrip.proofs.Reading.{reads_count, reads_nonce, reads_sector, reads_header, Fine, reads_run, reads_records}
 use Rattle.journaltrip.proofs.Pages.{all_back}
 
 -- a call that was done
-done_code : (n : ℕ) (l : List ℕ) (o : Outcome) → (settled n l o).reply.code ≡ 0 → n ≡ 0
-done_code zero l o h = refl
-done_code (suc c) l o h = absurd (omega arith)
+done_call : (v : Result (Unit {0}) Refusal) (l : List ℕ) (o : Outcome) → (settled v l o).reply.code ≡ 0 → v ≡ Ok tt
+done_call (Ok x) l o h = refl
+done_call (Err r) l o h = absurd (code_some r h)
 
 length_saved : (size : ℕ) (pages list : List ℕ) → length (map (saved_page size pages) list) ≡ length list
 length_saved size pages [] = refl
@@ -98,7 +101,7 @@ module _ (pages list rest : List ℕ) (size nonce sector room : ℕ) (fits : Fit
   unfolding saved
   as_many = length_saved size pages list
 
-  run_is : run_of size file ≡ record { count = length list; ended = 0 }
+  run_is : run_of size file ≡ record { count = length list; ended = None }
   unfolding run_of body
   run_is =
       ap (λ (n : ℕ). run n (nonce_of file) size (body_of file)) count_is
@@ -106,7 +109,7 @@ module _ (pages list rest : List ℕ) (size nonce sector room : ℕ) (fits : Fit
       ∙ ap (λ (l : List ℕ). run (length list) nonce size l) body_is
       ∙ ap (λ (n : ℕ). run n nonce size body) (sym as_many)
       ∙ reads_run nonce size saved rest good
-      ∙ ap (λ (n : ℕ). record { count = n; ended = 0 }) as_many
+      ∙ ap (λ (n : ℕ). record { count = n; ended = None }) as_many
 
   saved_is : to_restore size file ≡ saved
   unfolding to_restore body
@@ -116,15 +119,15 @@ module _ (pages list rest : List ℕ) (size nonce sector room : ℕ) (fits : Fit
       ∙ ap (λ (n : ℕ). records n size body) (sym as_many)
       ∙ reads_records nonce size saved rest good
 
-  code_is : (now : List ℕ) → length now ≡ length pages → play_code file (length now) size ≡ 0
-  unfolding play_code saved
-  code_is now e =
+  judged : (now : List ℕ) → length now ≡ length pages → judge_play file (length now) size ≡ Ok (run_of size file)
+  unfolding judge_play saved
+  judged now e =
       let l = fits.least in
       let a : not (is_size size) ≡ false = rw fits.sized refl in
       let b : not (whole_pages size (length now)) ≡ false = rw (e, fits.whole) refl in
       let c : not (is_header size file) ≡ false = rw headed refl in
       let d : outside (length now / size) (to_restore size file) ≡ false = rw (e, saved_is) (inside size pages list (omega arith) fits.lent_all) in
-      sym (passed_by _ 26 _ _ a (passed_by _ 27 _ _ b (passed_by _ 29 _ _ c (passed_by _ 30 _ _ d refl))))
+      sym (passed_by _ _ _ _ a (passed_by _ _ _ _ b (passed_by _ _ _ _ c (passed_by _ _ _ _ d refl))))
 
   played : (now : List ℕ) → length now ≡ length pages
       → play_call file now size ≡ record { reply = record { code = 0; ended = 0; records = length list }; bytes = restored size (map (saved_page size pages) list) now }
@@ -132,24 +135,24 @@ module _ (pages list rest : List ℕ) (size nonce sector room : ℕ) (fits : Fit
   played now e =
       let f = few in
       let m : length list % 2 ^ 32 ≡ length list = omega arith in
-      rw (code_is now e, run_is, saved_is, m) refl
+      rw (judged now e, run_is, saved_is, m) refl
 
 -- a journal that was written, whatever stood in the target, brings the listed pages back
 module _ (pages list target now : List ℕ) (size nonce sector : ℕ) (u : nonce < 2 ^ 32) (same : length now ≡ length pages) (done : (write_call pages list target size nonce sector).reply.code ≡ 0) where
-  code_zero : write_code list (length pages) (length target) size sector ≡ 0
+  goes : judge_write list (length pages) (length target) size sector ≡ Ok tt
   unfolding write_call
-  code_zero = done_code (write_code list (length pages) (length target) size sector) target _ done
+  goes = done_call (judge_write list (length pages) (length target) size sector) target _ done
 
   rest : List ℕ
   rest = drop (journal_length sector size (length list)) target
 
   fits : Fit list (length pages) (length target) size sector
-  fits = fit list (length pages) (length target) size sector code_zero
+  fits = fit list (length pages) (length target) size sector goes
 
   written : (write_call pages list target size nonce sector).bytes ≡ file pages list rest size nonce sector (length target) fits u
   unfolding write_call journal_bytes file body saved rest
   written =
-      rw code_zero
+      rw goes
       (append_assoc (header_bytes (length list) nonce (length pages / size) sector size) (records_bytes nonce size (map (saved_page size pages) list)) (drop (journal_length sector size (length list)) target))
 
   outcome : play_call (write_call pages list target size nonce sector).bytes now size

@@ -7,8 +7,9 @@ use lib.ListN.{length, take, drop, replicate, length-append, length-drop}
 use lib.Seq.{take_at, drop_at, drop-drop, length-take-le}
 use Rattle.record.specs.Part.{with_part}
 use Rattle.record.proofs.Parts.{with_take, with_drop}
-use Rattle.journal.proofs.Writes.{length_bytes}
-use Rattle.journal.specs.Layout.{first_bytes, bytes_of, header_bytes, record_bytes, checksum}
+use Rattle.word.specs.Big.{bytes_of}
+use Rattle.word.proofs.Bigs.{length_bytes, stored_part, grow}
+use Rattle.journal.specs.Layout.{first_bytes, header_bytes, record_bytes, checksum}
 
 -- the bytes ys behind x, which is all that was written so far
 pub behind : (x t t₁ t₂ ys : List ℕ) (a k : ℕ) → length x ≡ a → t₁ ≡ x ++ drop a t → t₂ ≡ with_part a k t₁ ys → t₂ ≡ (x ++ ys) ++ drop (a + k) t
@@ -28,7 +29,8 @@ firsts s t ys e q = ap (λ (x : List ℕ). x ++ drop 8 t) (q ∙ e)
 
 -- `put_fields`: five numbers behind the first bytes
 pub fields : (count nonce pages sector size : ℕ) (t t₁ t₂ t₃ t₄ t₅ t₆ : List ℕ) → t₁ ≡ first_bytes ++ drop 8 t
-    → t₂ ≡ with_part 8 4 t₁ (bytes_of count) → t₃ ≡ with_part 12 4 t₂ (bytes_of nonce) → t₄ ≡ with_part 16 4 t₃ (bytes_of pages) → t₅ ≡ with_part 20 4 t₄ (bytes_of sector) → t₆ ≡ with_part 24 4 t₅ (bytes_of size)
+    → t₂ ≡ take 8 t₁ ++ (bytes_of count ++ drop 12 t₁) → t₃ ≡ take 12 t₂ ++ (bytes_of nonce ++ drop 16 t₂) → t₄ ≡ take 16 t₃ ++ (bytes_of pages ++ drop 20 t₃)
+    → t₅ ≡ take 20 t₄ ++ (bytes_of sector ++ drop 24 t₄) → t₆ ≡ take 24 t₅ ++ (bytes_of size ++ drop 28 t₅)
     → t₆ ≡ (first_bytes ++ (bytes_of count ++ (bytes_of nonce ++ (bytes_of pages ++ (bytes_of sector ++ bytes_of size))))) ++ drop 28 t
 unfolding first_bytes bytes_of
 fields count nonce pages sector size t t₁ t₂ t₃ t₄ t₅ t₆ e₁ e₂ e₃ e₄ e₅ e₆ =
@@ -36,11 +38,11 @@ fields count nonce pages sector size t t₁ t₂ t₃ t₄ t₅ t₆ e₁ e₂ e
     let x₃ : List ℕ = x₂ ++ bytes_of nonce in
     let x₄ : List ℕ = x₃ ++ bytes_of pages in
     let x₅ : List ℕ = x₄ ++ bytes_of sector in
-    behind x₅ t t₅ t₆ (bytes_of size) 24 4 refl
-    (behind x₄ t t₄ t₅ (bytes_of sector) 20 4 refl
-    (behind x₃ t t₃ t₄ (bytes_of pages) 16 4 refl
-    (behind x₂ t t₂ t₃ (bytes_of nonce) 12 4 refl
-    (behind first_bytes t t₁ t₂ (bytes_of count) 8 4 refl e₁ e₂)
+    grow 24 4 t t₅ t₆ x₅ (bytes_of size) refl
+    (grow 20 4 t t₄ t₅ x₄ (bytes_of sector) refl
+    (grow 16 4 t t₃ t₄ x₃ (bytes_of pages) refl
+    (grow 12 4 t t₂ t₃ x₂ (bytes_of nonce) refl
+    (grow 8 4 t t₁ t₂ first_bytes (bytes_of count) refl e₁ e₂)
     e₃)
     e₄)
     e₅)
@@ -69,20 +71,20 @@ join l x y ys zs a k m h q e f =
     f ∙ rw (front, back, rest) (append_assoc (take a l) ys (zs ++ drop (k + m) (drop a l)) ∙ ap (λ (z : List ℕ). take a l ++ z) (sym (append_assoc ys zs (drop (k + m) (drop a l)))))
 
 pub record_put : (at number nonce sum : ℕ) (page t t₁ ys t₂ t₃ : List ℕ) → at + (length page + 8) ≤ length t
-    → t₁ ≡ with_part at 4 t (bytes_of number)
+    → t₁ ≡ take at t ++ (bytes_of number ++ drop (at + 4) t)
     → ys ≡ page
     → t₂ ≡ with_part (at + 4) (at + 4 + length page - (at + 4)) t₁ ys
-    → sum ≡ checksum nonce (length page) page → t₃ ≡ with_part (at + 4 + length page) 4 t₂ (bytes_of sum)
+    → sum ≡ checksum nonce (length page) page → t₃ ≡ take (at + 4 + length page) t₂ ++ (bytes_of sum ++ drop (at + 4 + length page + 4) t₂)
     → t₃ ≡ with_part at (length page + 8) t (record_bytes nonce (length page) (record { number = number; image = page }))
 unfolding record_bytes
 record_put at number nonce sum page t t₁ ys t₂ t₃ h e₁ q e₂ es e₃ =
     let n : ℕ = length page in
     let d : at + 4 + n - (at + 4) ≡ n = omega arith in
     let f₂ : t₂ ≡ with_part (at + 4) n t₁ page = e₂ ∙ rw (d, q) refl in
-    let two : t₂ ≡ with_part at (4 + n) t (bytes_of number ++ page) = join t t₁ t₂ (bytes_of number) page at 4 n (omega arith) (length_bytes number) e₁ f₂ in
+    let two : t₂ ≡ with_part at (4 + n) t (bytes_of number ++ page) = join t t₁ t₂ (bytes_of number) page at 4 n (omega arith) (length_bytes number) (stored_part t t₁ at number e₁) f₂ in
     let w : length (bytes_of number ++ page) ≡ 4 + n = length-append (bytes_of number) page ∙ ap (λ (i : ℕ). i + n) (length_bytes number) in
     let p : at + 4 + n ≡ at + (4 + n) = omega arith in
-    let f₃ : t₃ ≡ with_part (at + (4 + n)) 4 t₂ (bytes_of sum) = e₃ ∙ ap (λ (i : ℕ). with_part i 4 t₂ (bytes_of sum)) p in
+    let f₃ : t₃ ≡ with_part (at + (4 + n)) 4 t₂ (bytes_of sum) = stored_part t₂ t₃ (at + 4 + n) sum e₃ ∙ ap (λ (i : ℕ). with_part i 4 t₂ (bytes_of sum)) p in
     let r : 4 + n + 4 ≡ n + 8 = omega arith in
     join t t₂ t₃ (bytes_of number ++ page) (bytes_of sum) at (4 + n) 4 (omega arith) w two f₃
     ∙ ap (λ (i : ℕ). with_part at i t (bytes_of number ++ page ++ bytes_of sum)) r

@@ -1,43 +1,31 @@
 -- Laws of a list of pages: all of them lent, a record more, the whole journal; and of the call judged and told.
 use Prim.Native.Nat.{ℕ, zero, suc, ◌+◌, ◌*◌, ◌-◌, ◌/◌, ◌^◌, ◌≤◌, ◌<◌}
 use native.Mathlib.Omega.{arith}
-use native.Mathlib.Nat.{mul-le-mul, suc-mul}
+use native.Mathlib.Nat.{mul-le-mul, mul-le-mul_right}
 use mathlib.Core.Path.{◌≡◌, refl, sym, ap, ◌∙◌}
 use mathlib.Core.Bool.{Bool, true, false, not, ◌&&◌}
 use mathlib.Core.List.{List, [], ◌∷◌, ◌++◌, append-nil, append_assoc, map}
-use lib.ListN.{length, take, drop, get_or, length-append, take-append-drop, drop_of_length-le}
-use lib.Seq.{take_at, drop_at, take-length, drop-cons, length-take-le, drop-drop}
+use lib.ListN.{length, take, drop, get_or, length-append, take-append-drop}
+use lib.Seq.{take_at, drop_at, take-length, length-take-le, drop-drop}
 use lib.Dec.{leb}
-use borrow.Author.Tests.{lt-ltb, le-ltb, leb-true, not-false, eq-eqb, ne_eqb}
+use borrow.Author.Tests.{lt-ltb, le-ltb, leb-true, eq-eqb, ne_eqb}
 use Rattle.word.proofs.Tests.{and_both}
 use Rattle.record.specs.Part.{with_part}
 use Rattle.record.proofs.Parts.{length_with}
 use Rattle.journal.specs.Layout.{is_size, is_sector, whole_pages, header_bytes, record_bytes, records_bytes}
 use Rattle.journal.specs.Writing.{any_past, saved_page, journal_length, journal_bytes}
-use Rattle.journal.specs.Calls.{write_code, write_call, Told}
-use Rattle.journal.proofs.Tells.{refused_by, passed_by, told_no, size_range, sector_range}
+use Rattle.std.specs.Prelude.{Ok, Err}
+use Rattle.journal.specs.declared.Refusal.{Refusal}
+use Rattle.journal.specs.declared.Refusal.TheVariants.{ShortTarget, EmptyList, BadPage, BadParameter, BadLength}
+use Rattle.journal.specs.Answers.{reply_refused}
+use Rattle.journal.specs.Calls.{judge_write, write_call, Told}
+use Rattle.journal.proofs.Tells.{refused_by, passed_by, size_range, sector_range}
 use Rattle.journal.proofs.Writes.{length_header, length_record, length_page}
 use Rattle.journalwrite.proofs.Fills.{behind}
 
 -- `page_end`: the product fits
 pub end_fits : (p size : ℕ) → p < 2 ^ 32 → size < 2 ^ 32 → (p + 1) * size < 2 ^ 64
 end_fits p size h k = omega (arith, mul-le-mul {n₁ = p + 1} {m₁ = size} {n₂ = 4294967296} {m₂ = 4294967295} (omega arith) (omega arith))
-
--- `any_past`: one that lies past the lent bytes, none so far, none at all
-module _ (lent size : ℕ) where
-  pub past_hit : (list : List ℕ) (i : ℕ) → i < length list → lent < (get_or list i 0 + 1) * size → true ≡ any_past lent size (drop i list)
-  unfolding any_past
-  past_hit list i h k = rw (drop-cons list i 0 h, lt-ltb lent ((get_or list i 0 + 1) * size) k)
-
-  pub past_turn : (list : List ℕ) (i : ℕ) → i < length list → (get_or list i 0 + 1) * size ≤ lent → any_past lent size (drop (i + 1) list) ≡ any_past lent size (drop i list)
-  unfolding any_past
-  past_turn list i h k =
-      let e : i + 1 ≡ suc i = omega arith in
-      rw (e, drop-cons list i 0 h, le-ltb lent ((get_or list i 0 + 1) * size) k)
-
-  pub past_end : (list : List ℕ) (i : ℕ) → length list ≤ i → any_past lent size (drop i list) ≡ false
-  unfolding any_past
-  past_end list i h = rw (drop_of_length-le list h)
 
 module _ (nonce size : ℕ) (pages : List ℕ) where
   -- one page more
@@ -51,54 +39,47 @@ module _ (nonce size : ℕ) (pages : List ℕ) where
       ap (λ (x : List ℕ). record_bytes nonce size (saved_page size pages p) ++ x) (snoc ps i (omega arith))
       ∙ sym (append_assoc (record_bytes nonce size (saved_page size pages p)) (records_bytes nonce size (map (saved_page size pages) (take i ps))) (record_bytes nonce size (saved_page size pages (get_or ps i 0))))
 
-  -- i records are written behind the first bytes of the target, and the next goes to the place at
-  pub record Wrote (start : ℕ) (list t : List ℕ) (i at : ℕ) (now : List ℕ) : Type 0 where
+  -- i records are written behind the first bytes of the target
+  pub record Wrote (start : ℕ) (list t : List ℕ) (i : ℕ) (now : List ℕ) : Type 0 where
     pub below : i ≤ length list
-    pub room : at + (length list - i) * (size + 8) ≡ journal_length start size (length list)
-    pub front : length (take start t ++ records_bytes nonce size (map (saved_page size pages) (take i list))) ≡ at
-    pub bytes : now ≡ (take start t ++ records_bytes nonce size (map (saved_page size pages) (take i list))) ++ drop at t
+    pub front : length (take start t ++ records_bytes nonce size (map (saved_page size pages) (take i list))) ≡ journal_length start size i
+    pub bytes : now ≡ (take start t ++ records_bytes nonce size (map (saved_page size pages) (take i list))) ++ drop (journal_length start size i) t
     pub long : length now ≡ length t
 
   module _ (start : ℕ) (list t : List ℕ) (fits : journal_length start size (length list) ≤ length t) where
-    pub wrote_none : Wrote start list t 0 start t
+    pub wrote_none : Wrote start list t 0 t
     unfolding records_bytes
     wrote_none =
-        let e : length list - 0 ≡ length list = omega arith in
+        let z : start + 0 * (size + 8) ≡ start = omega arith in
         let h : start ≤ length t = omega arith in
         record {
           below = omega arith;
-          room = rw e;
-          front = rw (append-nil (take start t)) (length-take-le start t h);
-          bytes = rw (append-nil (take start t)) (sym (take-append-drop start t));
+          front = rw (append-nil (take start t), z) (length-take-le start t h);
+          bytes = rw (append-nil (take start t), z) (sym (take-append-drop start t));
           long = refl;
         }
 
-    module _ (i at : ℕ) (now : List ℕ) (w : Wrote start list t i at now) where
+    module _ (i : ℕ) (now : List ℕ) (w : Wrote start list t i now) where
       pub wrote_all : length list ≤ i → now ≡ (take start t ++ records_bytes nonce size (map (saved_page size pages) list)) ++ drop (journal_length start size (length list)) t
       wrote_all h =
           let b = w.below in
           let e : i ≡ length list = omega arith in
-          let z : length list - i ≡ 0 = omega arith in
-          let r : at + 0 * (size + 8) ≡ journal_length start size (length list) = rw z at w.room in
-          let a : at ≡ journal_length start size (length list) = omega arith in
-          w.bytes ∙ rw (a, e, take-length list) refl
+          w.bytes ∙ rw (e, take-length list) refl
 
       module _ (h : i < length list) where
-        one : length list - i ≡ suc (length list - (i + 1))
-        one = omega arith
+        after : journal_length start size (i + 1) ≡ journal_length start size i + (size + 8)
+        after = omega arith
 
-        after : at + (size + 8) + (length list - (i + 1)) * (size + 8) ≡ journal_length start size (length list)
-        after =
-            let r : at + suc (length list - (i + 1)) * (size + 8) ≡ journal_length start size (length list) = rw one at w.room in
-            let m : suc (length list - (i + 1)) * (size + 8) ≡ (length list - (i + 1)) * (size + 8) + (size + 8) = suc-mul (length list - (i + 1)) (size + 8) in
+        pub wrote_room : journal_length start size i + (size + 8) ≤ length now
+        wrote_room =
+            let m : (i + 1) * (size + 8) ≤ length list * (size + 8) = mul-le-mul_right (size + 8) (omega arith) in
+            let l = w.long in
             omega arith
 
-        pub wrote_room : at + (size + 8) ≤ length now
-        wrote_room = let a = after in let l = w.long in omega arith
-
         pub wrote_turn : (now' : List ℕ) → (get_or list i 0 + 1) * size ≤ length pages
-            → now' ≡ with_part at (size + 8) now (record_bytes nonce size (saved_page size pages (get_or list i 0))) → Wrote start list t (i + 1) (at + (size + 8)) now'
+            → now' ≡ with_part (journal_length start size i) (size + 8) now (record_bytes nonce size (saved_page size pages (get_or list i 0))) → Wrote start list t (i + 1) now'
         wrote_turn now' k e =
+            let at : ℕ = journal_length start size i in
             let r : List ℕ = record_bytes nonce size (saved_page size pages (get_or list i 0)) in
             let x : List ℕ = take start t ++ records_bytes nonce size (map (saved_page size pages) (take i list)) in
             let s : i + 1 ≡ suc i = omega arith in
@@ -110,9 +91,8 @@ module _ (nonce size : ℕ) (pages : List ℕ) where
             let la : length (x ++ r) ≡ length x + length r = length-append x r in
             record {
               below = omega arith;
-              room = after;
-              front = ap length more ∙ (omega arith);
-              bytes = behind x t now now' r at (size + 8) f w.bytes e ∙ ap (λ (l : List ℕ). l ++ drop (at + (size + 8)) t) (sym more);
+              front = ap length more ∙ la ∙ omega arith;
+              bytes = behind x t now now' r at (size + 8) f w.bytes e ∙ rw (more, after) refl;
               long = ap length e ∙ length_with at (size + 8) now r wrote_room n ∙ w.long;
             }
 
@@ -141,43 +121,43 @@ all_written pages list t t₁ t₂ size nonce sector h e f =
     in
     f ∙ rw (front, rest) refl
 
--- `code_of`: each refusal, and none
+-- `judge`: each refusal, and none
 module _ (list : List ℕ) (lent room size sector : ℕ) where
-  pub code_20 : any_past lent size list ≡ true → 20 ≡ write_code list lent room size sector
-  unfolding write_code
-  code_20 a = refused_by _ 20 _ a
+  abbrev Sized : Bool
+  Sized = is_size size && is_sector sector && leb (length list) 4294967294
+
+  pub judged_20 : any_past lent size list ≡ true → Err BadPage ≡ judge_write list lent room size sector
+  unfolding judge_write
+  judged_20 a = refused_by _ _ _ a
 
   module _ (a : any_past lent size list ≡ false) where
-    pub code_26 : not (is_size size && is_sector sector && leb (length list) 4294967294) ≡ true → 26 ≡ write_code list lent room size sector
-    unfolding write_code
-    code_26 b = passed_by _ 20 _ _ a (refused_by _ 26 _ b)
+    pub judged_26 : Sized ≡ false → Err BadParameter ≡ judge_write list lent room size sector
+    unfolding judge_write
+    judged_26 b = passed_by _ _ _ _ a (refused_by _ _ _ (ap not b))
 
-    module _ (b : not (is_size size && is_sector sector && leb (length list) 4294967294) ≡ false) where
-      pub code_27 : not (whole_pages size lent) ≡ true → 27 ≡ write_code list lent room size sector
-      unfolding write_code
-      code_27 c = passed_by _ 20 _ _ a (passed_by _ 26 _ _ b (refused_by _ 27 _ c))
+    module _ (b : Sized ≡ true) where
+      pub judged_27 : whole_pages size lent ≡ false → Err BadLength ≡ judge_write list lent room size sector
+      unfolding judge_write
+      judged_27 c = passed_by _ _ _ _ a (passed_by _ _ _ _ (ap not b) (refused_by _ _ _ (ap not c)))
 
-      module _ (c : not (whole_pages size lent) ≡ false) where
-        pub code_14 : room < journal_length sector size (length list) → 14 ≡ write_code list lent room size sector
-        unfolding write_code
-        code_14 d = passed_by _ 20 _ _ a (passed_by _ 26 _ _ b (passed_by _ 27 _ _ c (refused_by _ 14 _ (lt-ltb room (journal_length sector size (length list)) d))))
+      module _ (c : whole_pages size lent ≡ true) where
+        pub judged_14 : room < journal_length sector size (length list) → Err ShortTarget ≡ judge_write list lent room size sector
+        unfolding judge_write
+        judged_14 d = passed_by _ _ _ _ a (passed_by _ _ _ _ (ap not b) (passed_by _ _ _ _ (ap not c) (refused_by _ _ _ (lt-ltb room (journal_length sector size (length list)) d))))
 
         module _ (d : journal_length sector size (length list) ≤ room) where
-          pub code_15 : length list ≡ 0 → 15 ≡ write_code list lent room size sector
-          unfolding write_code
-          code_15 e = passed_by _ 20 _ _ a (passed_by _ 26 _ _ b (passed_by _ 27 _ _ c (passed_by _ 14 _ _ (le-ltb room (journal_length sector size (length list)) d) (refused_by _ 15 _ (eq-eqb (length list) 0 e)))))
+          pub judged_15 : length list ≡ 0 → Err EmptyList ≡ judge_write list lent room size sector
+          unfolding judge_write
+          judged_15 e = passed_by _ _ _ _ a (passed_by _ _ _ _ (ap not b) (passed_by _ _ _ _ (ap not c) (passed_by _ _ _ _ (le-ltb room (journal_length sector size (length list)) d) (refused_by _ _ _ (eq-eqb (length list) 0 e)))))
 
-          pub code_0 : (length list ≡ 0 → ⊥) → 0 ≡ write_code list lent room size sector
-          unfolding write_code
-          code_0 e = passed_by _ 20 _ _ a (passed_by _ 26 _ _ b (passed_by _ 27 _ _ c (passed_by _ 14 _ _ (le-ltb room (journal_length sector size (length list)) d) (passed_by _ 15 _ _ (ne_eqb (length list) 0 e) refl))))
-
-pub same_tests : (a b x y d : Bool) → a ≡ x → b ≡ y → not (a && b && d) ≡ not (x && y && d)
-same_tests a b x y d e f = rw (e, f)
+          pub judged_go : (length list ≡ 0 → ⊥) → Ok tt ≡ judge_write list lent room size sector
+          unfolding judge_write
+          judged_go e = passed_by _ _ _ _ a (passed_by _ _ _ _ (ap not b) (passed_by _ _ _ _ (ap not c) (passed_by _ _ _ _ (le-ltb room (journal_length sector size (length list)) d) (passed_by _ _ _ _ (ne_eqb (length list) 0 e) refl))))
 
 -- what the test for 26 tells, and that the journal's length fits
-pub sizes : (size sector n : ℕ) → not (is_size size && is_sector sector && leb n 4294967294) ≡ false → (0 < size) × (sector + n * (size + 8) < 2 ^ 63) × (n * (size + 8) < 2 ^ 63)
+pub sizes : (size sector n : ℕ) → (is_size size && is_sector sector && leb n 4294967294) ≡ true → (0 < size) × (sector + n * (size + 8) < 2 ^ 63) × (n * (size + 8) < 2 ^ 63)
 sizes size sector n h =
-    let e = and_both (is_size size && is_sector sector) (leb n 4294967294) (not-false (is_size size && is_sector sector && leb n 4294967294) h) in
+    let e = and_both (is_size size && is_sector sector) (leb n 4294967294) h in
     let f = and_both (is_size size) (is_sector sector) e.0 in
     let s = size_range size f.0 in
     let r = sector_range sector f.1 in
@@ -187,14 +167,13 @@ sizes size sector n h =
     (omega (arith, s.0), omega (arith, r.1), omega arith)
 
 -- the door: refused, and done
-module _ (pages list target : List ℕ) (size nonce sector code : ℕ) (s : code ≡ write_code list (length pages) (length target) size sector) where
-  pub write_no : (code ≡ 0 → ⊥) → Told (write_call pages list target size nonce sector) (record { code = code; ended = 0; records = 0 }) target
+module _ (pages list target : List ℕ) (size nonce sector : ℕ) where
+  pub write_no : (e : Refusal) → Err e ≡ judge_write list (length pages) (length target) size sector → Told (write_call pages list target size nonce sector) (reply_refused e) target
   unfolding write_call
-  write_no h = told_no code (write_code list (length pages) (length target) size sector) target _ s h
+  write_no e s = rw (← s) (record { reply = refl; bytes = refl })
 
-  pub write_done : (target' : List ℕ) → code ≡ 0 → target' ≡ journal_bytes pages list size nonce sector ++ drop (journal_length sector size (length list)) target
+  pub write_done : (target' : List ℕ) → judge_write list (length pages) (length target) size sector ≡ Ok tt
+      → target' ≡ journal_bytes pages list size nonce sector ++ drop (journal_length sector size (length list)) target
       → Told (write_call pages list target size nonce sector) (record { code = 0; ended = 0; records = length list }) target'
   unfolding write_call
-  write_done target' z e =
-      let c : write_code list (length pages) (length target) size sector ≡ 0 = sym s ∙ z in
-      rw c (record { reply = refl; bytes = e })
+  write_done target' s e = rw s (record { reply = refl; bytes = e })

@@ -2,36 +2,37 @@
 // The door asks nothing of its caller.
 #![tactic(auto)]
 
-mod fill;
 mod list;
+mod put;
 
 ghost use Rattle.std.specs.Prelude.{◌≡◌};
-ghost use Rattle.journal.specs.Calls.{write_code, write_call, Told};
+ghost use Rattle.journal.specs.Calls.{judge_write, write_call, Told};
 
-use journal::Reply;
+use journal::{Refusal, Reply};
 
-// The call judged: 20, 26, 27, 14, 15, or 0. Nothing is written.
-fn code_of(list: &[u32], lent: usize, room: usize, page_size: u32, sector: u32) -> u32
-    ensures { result ≡ write_code list.now lent room page_size sector }
+// The call judged: 20, 26, 27, 14, 15, or none of them. Nothing is written.
+#[tactic(auto, using(crate::proofs::Lists::judged_20, crate::proofs::Lists::judged_26, crate::proofs::Lists::judged_27, crate::proofs::Lists::judged_14, crate::proofs::Lists::judged_15, crate::proofs::Lists::judged_go, crate::proofs::Lists::sizes))]
+fn judge(list: &[u32], lent: usize, room: usize, page_size: u32, sector: u32) -> Result<(), Refusal>
+    ensures { result ≡ judge_write list.now lent room page_size sector }
 {
     if list::any_past(list, lent, page_size) {
-        return 20;
+        return Err(Refusal::BadPage);
     }
     let n = list.len();
     if !(journal::head::is_size(page_size) & journal::head::is_sector(sector) & (n <= 4294967294)) {
-        return 26;
+        return Err(Refusal::BadParameter);
     }
     let size = page_size as usize;
     if !journal::head::whole_pages(size, lent) {
-        return 27;
+        return Err(Refusal::BadLength);
     }
     if room < sector as usize + n * (size + 8) {
-        return 14;
+        return Err(Refusal::ShortTarget);
     }
     if n == 0 {
-        return 15;
+        return Err(Refusal::EmptyList);
     }
-    0
+    Ok(())
 }
 
 pub fn ventarico_journal_write(
@@ -44,18 +45,15 @@ pub fn ventarico_journal_write(
 ) -> Reply
     ensures { Told (write_call pages.now list.now target.old page_size nonce sector) result target.new }
 {
-    let code = code_of(list, pages.len(), target.len(), page_size, sector);
-    if code != 0 {
-        return Reply {
-            code,
-            ended: 0,
-            records: 0,
-        };
-    }
-    list::write_all(pages, list, target, page_size, nonce, sector);
-    Reply {
-        code: 0,
-        ended: 0,
-        records: list.len() as u32,
+    match judge(list, pages.len(), target.len(), page_size, sector) {
+        Ok(()) => {
+            list::write_all(pages, list, target, page_size, nonce, sector);
+            Reply {
+                code: 0,
+                ended: 0,
+                records: list.len() as u32,
+            }
+        }
+        Err(refusal) => Reply::from(refusal),
     }
 }

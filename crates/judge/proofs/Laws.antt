@@ -43,26 +43,6 @@ unfolding any
 held_apart p offset w kind v x h k n [] = refl
 held_apart p offset w kind v x h k n (a ∷ l) = λ i. not_apart p offset w kind v x h k n a i || held_apart p offset w kind v x h k n l i
 
--- the loop over the rows: none so far
-pub any_turn : (b : List ℕ → Bool) (t : List ℕ) (m i : ℕ) → i < m → b (row_at 19 t i) ≡ false → any b (rows 19 (m - i) t i) ≡ any b (rows 19 (m - (i + 1)) t (i + 1))
-unfolding any rows
-any_turn b t m i h e =
-    let a : m - i ≡ suc (m - (i + 1)) = omega arith in
-    rw a (ap (λ (z : Bool). z || any b (rows 19 (m - (i + 1)) t (i + 1))) e)
-
-pub any_found : (b : List ℕ → Bool) (t : List ℕ) (m i : ℕ) → i < m → b (row_at 19 t i) ≡ true → true ≡ any b (rows 19 (m - i) t i)
-unfolding any rows
-any_found b t m i h e =
-    let a : m - i ≡ suc (m - (i + 1)) = omega arith in
-    rw a (sym (ap (λ (z : Bool). z || any b (rows 19 (m - (i + 1)) t (i + 1))) e))
-
-pub any_none : (b : List ℕ → Bool) (t : List ℕ) (m i : ℕ) → m ≤ i → false ≡ any b (rows 19 (m - i) t i)
-unfolding any rows
-any_none b t m i h = let a : m - i ≡ 0 = omega arith in rw a
-
-pub any_start : (b : List ℕ → Bool) (t : List ℕ) (m : ℕ) → any b (rows 19 (m - 0) t 0) ≡ any b (rows 19 m t 0)
-any_start b t m = let a : m - 0 ≡ m = omega arith in rw a
-
 -- a length that is none of the other three is eight
 pub eight : (w : ℕ) → is_length w ≡ true → (w ≡ 1 → ⊥) → (w ≡ 2 → ⊥) → (w ≡ 4 → ⊥) → w ≡ 8
 unfolding is_length

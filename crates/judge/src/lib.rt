@@ -9,6 +9,8 @@ ghost use Rattle.rules.specs.Sound.{between};
 ghost use Rattle.rules.specs.Lent.{order_at};
 ghost use Rattle.rules.specs.Calls.{clashes, held_to_read, is_number, is_live, verdict_of, begin_refusals, read_refusals, update_refusals, abort_refusals, evict_refusals, commit_refusals, compact_refusals, checkpoint_refusals};
 
+use record::row;
+use record::row::OnlineRow;
 use rules::{Bad, Refusal, Verdict};
 
 // A transaction number is 1 to 32.
@@ -27,61 +29,65 @@ pub fn is_live(tables: &[u8], x: u32) -> bool
     tables[at] == 1
 }
 
+#[tactic(auto, unfolding(rules::specs::Calls::begin_refusals, rules::specs::Calls::verdict_of, rules::specs::Calls::refuse_if))]
 pub fn may_begin(tables: &[u8], x: u32) -> Verdict
     requires { order_at ≤ length tables.now }
     ensures { result ≡ verdict_of (begin_refusals (is_live tables.now) x) }
 {
     if !is_number(x) {
-        return Verdict::Refuse(Refusal::Argument(Bad::Number));
+        return Err(Refusal::Argument(Bad::Number));
     }
     if is_live(tables, x) {
-        return Verdict::Refuse(Refusal::Live);
+        return Err(Refusal::Live);
     }
-    Verdict::Go
+    Ok(())
 }
 
+#[tactic(auto, unfolding(rules::specs::Calls::abort_refusals, rules::specs::Calls::verdict_of, rules::specs::Calls::refuse_if))]
 pub fn may_abort(tables: &[u8], x: u32) -> Verdict
     requires { order_at ≤ length tables.now }
     ensures { result ≡ verdict_of (abort_refusals (is_live tables.now) x) }
 {
     if !is_number(x) {
-        return Verdict::Refuse(Refusal::Argument(Bad::Number));
+        return Err(Refusal::Argument(Bad::Number));
     }
     if !is_live(tables, x) {
-        return Verdict::Refuse(Refusal::NotLive);
+        return Err(Refusal::NotLive);
     }
-    Verdict::Go
+    Ok(())
 }
 
+#[tactic(auto, unfolding(rules::specs::Calls::commit_refusals, rules::specs::Calls::verdict_of, rules::specs::Calls::refuse_if))]
 pub fn may_commit(span: usize, n: usize, last: u64, tables: &[u8], k: usize, x: u32) -> Verdict
     requires { (order_at ≤ length tables.now) × (n ≤ 2048) × (k ≤ 512) × (last < 4294967296) }
     ensures { result ≡ verdict_of (commit_refusals span n last (is_live tables.now) k x) }
 {
     if !is_number(x) {
-        return Verdict::Refuse(Refusal::Argument(Bad::Number));
+        return Err(Refusal::Argument(Bad::Number));
     }
     if !is_live(tables, x) {
-        return Verdict::Refuse(Refusal::NotLive);
+        return Err(Refusal::NotLive);
     }
     if span < n + k {
-        return Verdict::Refuse(Refusal::LogFull);
+        return Err(Refusal::LogFull);
     }
     if 4294967295 < last + k as u64 {
-        return Verdict::Refuse(Refusal::NumbersEnd);
+        return Err(Refusal::NumbersEnd);
     }
-    Verdict::Go
+    Ok(())
 }
 
+#[tactic(auto, unfolding(rules::specs::Calls::evict_refusals, rules::specs::Calls::verdict_of, rules::specs::Calls::refuse_if))]
 pub fn may_evict(pages: usize, entry: u8, p: u32) -> Verdict
     ensures { result ≡ verdict_of (evict_refusals pages entry p) }
 {
     if pages <= p as usize {
-        return Verdict::Refuse(Refusal::Argument(Bad::Page));
+        return Err(Refusal::Argument(Bad::Page));
     }
     if entry / 2 == 0 {
-        return Verdict::Refuse(Refusal::NoFrame);
+        return Err(Refusal::NoFrame);
     }
-    Verdict::Go
+    Ok(())
 }
 
 fn are_parameters(min_del: u32, max_age: u32) -> bool
@@ -90,51 +96,50 @@ fn are_parameters(min_del: u32, max_age: u32) -> bool
     (1 <= min_del) & (min_del <= 512) & (max_age <= 4294967295)
 }
 
+#[tactic(auto, unfolding(rules::specs::Calls::compact_refusals, rules::specs::Calls::verdict_of, rules::specs::Calls::refuse_if))]
 pub fn may_compact(pages: usize, p: u32, min_del: u32, max_age: u32) -> Verdict
     ensures { result ≡ verdict_of (compact_refusals pages p min_del max_age) }
 {
     if pages <= p as usize {
-        return Verdict::Refuse(Refusal::Argument(Bad::Page));
+        return Err(Refusal::Argument(Bad::Page));
     }
     if !are_parameters(min_del, max_age) {
-        return Verdict::Refuse(Refusal::Argument(Bad::Parameter));
+        return Err(Refusal::Argument(Bad::Parameter));
     }
-    Verdict::Go
+    Ok(())
 }
 
+#[tactic(auto, unfolding(rules::specs::Calls::checkpoint_refusals, rules::specs::Calls::verdict_of, rules::specs::Calls::refuse_if))]
 pub fn may_checkpoint(min_del: u32, max_age: u32) -> Verdict
     ensures { result ≡ verdict_of (checkpoint_refusals min_del max_age) }
 {
     if !are_parameters(min_del, max_age) {
-        return Verdict::Refuse(Refusal::Argument(Bad::Parameter));
+        return Err(Refusal::Argument(Bad::Parameter));
     }
-    Verdict::Go
+    Ok(())
 }
 
-// Row i of the online table is another live owner's, and has a byte of those asked for.
-fn clashes_row(online: &[u8], i: usize, x: u32, p: u32, offset: u32, w: u32) -> bool
-    requires { i * online_width + online_width ≤ length online.now }
-    ensures { result ≡ clashes x p offset w (row_at online_width online.now i) }
+// The row is another live owner's, and has a byte of those asked for.
+fn clashes_row(row: &OnlineRow, x: u32, p: u32, offset: u32, w: u32) -> bool
+    ensures { result ≡ clashes x p offset w row.now }
 {
-    let owner = record::owner_of(online, i) as u32;
-    let page = record::page_of(online, record::ONLINE_WIDTH, i);
-    let from = record::offset_of(online, record::ONLINE_WIDTH, i);
-    let to = from + record::length_of(online, record::ONLINE_WIDTH, i);
+    let owner = row::owner_of(row) as u32;
+    let page = row::page_of(row);
+    let from = row::offset_of(row);
+    let to = from + row::length_of(row);
     let at = offset as usize;
     (owner != 0) & (owner != x) & ((page.0 == p as usize) & (from < at + w as usize) & (at < to))
 }
 
 // A byte asked for is in another live owner's record.
-fn is_held(online: &[u8], m: usize, x: u32, p: u32, offset: u32, w: u32) -> bool
-    requires { m * online_width ≤ length online.now }
-    ensures { result ≡ held_to_read (rows online_width m online.now 0) x p offset w }
+#[tactic(auto, using(record::proofs::Listed::any_found, record::proofs::Listed::any_passed, record::proofs::Listed::any_none_left))]
+fn is_held(online: &[OnlineRow], x: u32, p: u32, offset: u32, w: u32) -> bool
+    ensures { result ≡ held_to_read online.now x p offset w }
 {
-    let mut i = 0;
-    while i < m {
-        if clashes_row(online, i, x, p, offset, w) {
+    for row in online {
+        if clashes_row(row, x, p, offset, w) {
             return true;
         }
-        i += 1;
     }
     false
 }
@@ -163,44 +168,44 @@ fn is_value(v: u64, w: u32) -> bool
     true
 }
 
+#[tactic(auto, unfolding(rules::specs::Calls::read_refusals, rules::specs::Calls::verdict_of, rules::specs::Calls::refuse_if))]
 pub fn may_read(
     size: usize,
     pages: usize,
     tables: &[u8],
-    online: &[u8],
-    m: usize,
+    online: &[OnlineRow],
     room: usize,
     x: u32,
     p: u32,
     offset: u32,
     w: u32,
 ) -> Verdict
-    requires { (order_at ≤ length tables.now) × (m * online_width ≤ length online.now) }
-    ensures { result ≡ verdict_of (read_refusals size pages (is_live tables.now) (rows online_width m online.now 0) room x p offset w) }
+    requires { order_at ≤ length tables.now }
+    ensures { result ≡ verdict_of (read_refusals size pages (is_live tables.now) online.now room x p offset w) }
 {
     if pages <= p as usize {
-        return Verdict::Refuse(Refusal::Argument(Bad::Page));
+        return Err(Refusal::Argument(Bad::Page));
     }
     if !is_number(x) {
-        return Verdict::Refuse(Refusal::Argument(Bad::Number));
+        return Err(Refusal::Argument(Bad::Number));
     }
     if !is_between(w, size) {
-        return Verdict::Refuse(Refusal::Argument(Bad::Length));
+        return Err(Refusal::Argument(Bad::Length));
     }
     if size < offset as usize + w as usize {
-        return Verdict::Refuse(Refusal::Argument(Bad::Place));
+        return Err(Refusal::Argument(Bad::Place));
     }
     let short = room < w as usize;
     if short {
-        return Verdict::Refuse(Refusal::ShortBuffer);
+        return Err(Refusal::ShortBuffer);
     }
     if !is_live(tables, x) {
-        return Verdict::Refuse(Refusal::NotLive);
+        return Err(Refusal::NotLive);
     }
-    if is_held(online, m, x, p, offset, w) {
-        return Verdict::Refuse(Refusal::Held);
+    if is_held(online, x, p, offset, w) {
+        return Err(Refusal::Held);
     }
-    Verdict::Go
+    Ok(())
 }
 
 // A read's length is 1 to the page size.
@@ -210,13 +215,13 @@ fn is_between(w: u32, size: usize) -> bool
     (1 <= w) & (w as usize <= size)
 }
 
+#[tactic(auto, unfolding(rules::specs::Calls::update_refusals, rules::specs::Calls::verdict_of, rules::specs::Calls::refuse_if))]
 pub fn may_update(
     size: usize,
     pages: usize,
     room: usize,
     tables: &[u8],
-    online: &[u8],
-    m: usize,
+    online: &[OnlineRow],
     x: u32,
     p: u32,
     offset: u32,
@@ -224,35 +229,35 @@ pub fn may_update(
     kind: u32,
     v: u64,
 ) -> Verdict
-    requires { (order_at ≤ length tables.now) × (m ≤ 512) × (m * online_width ≤ length online.now) × (size ≤ 4096) × (pages ≤ 1024) }
-    ensures { result ≡ verdict_of (update_refusals size pages room m (is_live tables.now) (rows online_width m online.now 0) x p offset w kind v) }
+    requires { (order_at ≤ length tables.now) × (size ≤ 4096) × (pages ≤ 1024) }
+    ensures { result ≡ verdict_of (update_refusals size pages room (length online.now) (is_live tables.now) online.now x p offset w kind v) }
 {
     if pages <= p as usize {
-        return Verdict::Refuse(Refusal::Argument(Bad::Page));
+        return Err(Refusal::Argument(Bad::Page));
     }
     if !is_number(x) {
-        return Verdict::Refuse(Refusal::Argument(Bad::Number));
+        return Err(Refusal::Argument(Bad::Number));
     }
     if !is_length(w) {
-        return Verdict::Refuse(Refusal::Argument(Bad::Length));
+        return Err(Refusal::Argument(Bad::Length));
     }
     if size < offset as usize + w as usize {
-        return Verdict::Refuse(Refusal::Argument(Bad::Place));
+        return Err(Refusal::Argument(Bad::Place));
     }
     if !is_value(v, w) {
-        return Verdict::Refuse(Refusal::Argument(Bad::Value));
+        return Err(Refusal::Argument(Bad::Value));
     }
     if 1 < kind {
-        return Verdict::Refuse(Refusal::Argument(Bad::Kind));
+        return Err(Refusal::Argument(Bad::Kind));
     }
     if !is_live(tables, x) {
-        return Verdict::Refuse(Refusal::NotLive);
+        return Err(Refusal::NotLive);
     }
-    if is_held(online, m, x, p, offset, w) {
-        return Verdict::Refuse(Refusal::Held);
+    if is_held(online, x, p, offset, w) {
+        return Err(Refusal::Held);
     }
-    if room < m + 1 {
-        return Verdict::Refuse(Refusal::OnlineFull);
+    if room < online.len() + 1 {
+        return Err(Refusal::OnlineFull);
     }
-    Verdict::Go
+    Ok(())
 }

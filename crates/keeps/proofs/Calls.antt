@@ -1,5 +1,6 @@
 -- Each call on any sound tables, accepted or refused, leaves sound tables. `update_keeps` and `judged_alone` are what a call of many updates cites:
 -- the tables are checked once, each update is judged by its list alone, and what it leaves is sound again.
+use Rattle.std.specs.Prelude.{Ok, Err}
 use Prim.Native.Nat.{ℕ, ◌≤◌}
 use mathlib.Core.Path.{◌≡◌, refl, ap}
 use mathlib.Core.Bool.{Bool, true, false, not}
@@ -7,8 +8,7 @@ use mathlib.Core.List.{List, []}
 use lib.ListN.{length}
 use Rattle.record.specs.Record.{row_of}
 use Rattle.rules.specs.declared.Refusal.TheVariants.{NotSound}
-use Rattle.rules.specs.declared.Verdict.{Verdict}
-use Rattle.rules.specs.declared.Verdict.TheVariants.{Go, Refuse}
+use Rattle.rules.specs.Calls.{Verdict}
 use Rattle.rules.specs.Lent.{Lent, size_of, pages_of, online_size_of, last_of, count_of, online_of}
 use Rattle.rules.specs.Sound.{sound}
 use Rattle.rules.specs.Steps.{begun, read_step, read_bytes, updated, committing, aborted, evicted, due, compacted, closed, checkpointed}
@@ -22,7 +22,7 @@ use Rattle.keeps.proofs.Compacts.{sound_compact}
 use Rattle.keeps.proofs.Closes.{sound_close, sound_checkpoint}
 
 -- an accepted update
-pub update_keeps : (s : Lent) (x p offset w kind v : ℕ) → judge_update s x p offset w kind v ≡ Go → sound (updated s (row_of p offset w kind v x)).lent ≡ true
+pub update_keeps : (s : Lent) (x p offset w kind v : ℕ) → judge_update s x p offset w kind v ≡ Ok tt → sound (updated s (row_of p offset w kind v x)).lent ≡ true
 update_keeps s x p offset w kind v e =
     let a = update_went s x p offset w kind v e in
     let b = update_whose s x p offset w kind v e in
@@ -35,9 +35,9 @@ judged_alone s x p offset w kind v e =
     ap (λ (b : Bool). refuse_if (not b) NotSound (verdict_of (update_refusals (size_of s) (pages_of s) (online_size_of s) (count_of s) (is_live s.lost.tables) (online_of s) x p offset w kind v))) e
 
 -- a call that is settled: refused, nothing changes; else its step
-by_verdict : (s : Lent) (buffer : List ℕ) (o : Outcome) (v : Verdict) → sound s ≡ true → (v ≡ Go → sound o.lent ≡ true) → sound (settled v s buffer o).lent ≡ true
-by_verdict s buffer o Go e f = f refl
-by_verdict s buffer o (Refuse r) e f = e
+by_verdict : (s : Lent) (buffer : List ℕ) (o : Outcome) (v : Verdict) → sound s ≡ true → (v ≡ Ok tt → sound o.lent ≡ true) → sound (settled v s buffer o).lent ≡ true
+by_verdict s buffer o (Ok tt) e f = f refl
+by_verdict s buffer o (Err r) e f = e
 
 module _ (s : Lent) (e : sound s ≡ true) where
   pub keeps_begin : (x : ℕ) → sound (begin_call s x).lent ≡ true

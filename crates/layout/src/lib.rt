@@ -6,6 +6,8 @@ ghost use Rattle.std.specs.Prelude.{◌≡◌, length};
 ghost use Rattle.rules.specs.Lent.{fixed_length};
 ghost use Rattle.layout.specs.Read.{ParamsRead};
 
+pub mod read;
+
 use rules::Params;
 
 // fixed

@@ -3,13 +3,18 @@ use Prim.Native.Nat.{ℕ, zero, suc, ◌+◌, ◌*◌, ◌-◌, ◌≤◌, ◌<�
 use native.Mathlib.Omega.{arith}
 use mathlib.Core.Path.{◌≡◌, refl, sym, ap, ◌∙◌}
 use mathlib.Core.Bool.{Bool, true, false, cond, not, ◌&&◌, ◌||◌, and-true, and-false, and_assoc, or-true}
-use mathlib.Core.List.{List, [], ◌∷◌}
-use lib.ListN.{length, get_or, set, replicate, length-set, length-replicate}
+use mathlib.Core.List.{List, [], ◌∷◌, ◌++◌}
+use lib.ListN.{length, get_or, set, take, drop, replicate, length-set, length-replicate}
 use lib.Seq.{get_or-set_same, get_or-set_other, set_out}
 use lib.Dec.{eqb, leb, ltb}
 use borrow.Author.Tests.{ltb-true, ltb-false, leb-true, leb-false, eqb-true, eqb-false, lt-ltb, le-ltb, le-leb, eq-eqb, ne_eqb, not-true}
 use Rattle.word.proofs.Tests.{and_both, so, and_swap}
-use Rattle.record.specs.Rows.{row_at, rows, keep, cons_if}
+use Rattle.std.proofs.lemmas.List.{length-take-le, set-append_left, set-append_right}
+use borrow.Rule.Slice.PartMut.{put_mid, put_same}
+use Rattle.record.specs.Part.{part}
+use Rattle.record.proofs.Laws.{get_d_part}
+use Rattle.record.proofs.Parts.{length_part}
+use Rattle.record.specs.Rows.{keep, cons_if}
 use Rattle.record.specs.Record.{page_of, offset_of, length_of, owner_of, number_of, committed, share_byte, is_length, well_formed, free}
 use Rattle.rules.specs.Sound.{every, pairs, up_to, between, apart}
 use Rattle.rules.proofs.Every.{every_kept, every_keep}
@@ -258,69 +263,68 @@ zeros_at (suc n) zero = refl
 zeros_at (suc n) (suc b) = zeros_at n b
 
 -- the walk over the rows: before it, past a row, at the end
-module _ (t : List ℕ) (m : ℕ) (heads after : List ℕ) (linked : Linked t m 0 heads after) where
-  page_chain : (p : ℕ) → p < 1024 → Chain t m after 0 (get_or heads p 0) (keep (open_on p) (rows 19 m t 0))
-  page_chain p h = let n : m - 0 ≡ m = omega arith in rw n at (linked.chains p h)
+module _ (rs : List (List ℕ)) (heads after : List ℕ) (linked : Linked rs 0 heads after) where
+  page_chain : (p : ℕ) → p < 1024 → Chain rs after 0 (get_or heads p 0) (keep (open_on p) rs)
+  page_chain p h = linked.chains p h
 
   -- a page that begins with row i is that row's
-  page_first : (i p : ℕ) → i < m → p < 1024 → get_or heads p 0 ≡ i → page_of (row_at 19 t i) ≡ p
+  page_first : (i p : ℕ) → i < length rs → p < 1024 → get_or heads p 0 ≡ i → page_of (get_or rs i []) ≡ p
   page_first i p h k e =
-      let c : Chain t m after 0 i (keep (open_on p) (rows 19 m t 0)) = rw e at (page_chain p k) in
-      eqb-true (page_of (row_at 19 t i)) p (and_both (eqb (page_of (row_at 19 t i)) p) (not (committed (row_at 19 t i))) (chain_first (open_on p) h c (every_kept (open_on p) (open_on p) (λ r e. e) (rows 19 m t 0)))).0
+      let c : Chain rs after 0 i (keep (open_on p) rs) = rw e at (page_chain p k) in
+      eqb-true (page_of (get_or rs i [])) p (and_both (eqb (page_of (get_or rs i [])) p) (not (committed (get_or rs i []))) (chain_first (open_on p) h c (every_kept (open_on p) (open_on p) (λ r e. e) rs))).0
 
-  pass : (i : ℕ) (marks d : List ℕ) → length d ≡ 4096 → ((b : ℕ) → get_or d b 0 ≤ (i + 1) * 64) → ((p : ℕ) → p < 1024 → get_or heads p 0 ≡ i → pairs apart (keep (open_on p) (rows 19 m t 0)) ≡ true) → Passed t m i heads marks → Passed t m (i + 1) heads d
+  pass : (i : ℕ) (marks d : List ℕ) → length d ≡ 4096 → ((b : ℕ) → get_or d b 0 ≤ (i + 1) * 64) → ((p : ℕ) → p < 1024 → get_or heads p 0 ≡ i → pairs apart (keep (open_on p) rs) ≡ true) → Passed rs i heads marks → Passed rs (i + 1) heads d
   pass i marks d n f g w = record { wide = n; most = f; clear = λ p h k. pick p h k (eqb (get_or heads p 0) i) refl }
     where
-      pick : (p : ℕ) → p < 1024 → get_or heads p 0 < i + 1 → (x : Bool) → eqb (get_or heads p 0) i ≡ x → pairs apart (keep (open_on p) (rows 19 m t 0)) ≡ true
+      pick : (p : ℕ) → p < 1024 → get_or heads p 0 < i + 1 → (x : Bool) → eqb (get_or heads p 0) i ≡ x → pairs apart (keep (open_on p) rs) ≡ true
       pick p h k true e = g p h (eqb-true (get_or heads p 0) i e)
       pick p h k false e =
           let d : (get_or heads p 0 ≡ i → ⊥) = eqb-false (get_or heads p 0) i e in
           w.clear p h (omega arith)
 
-  pass_still : (i : ℕ) (marks : List ℕ) → ((p : ℕ) → p < 1024 → get_or heads p 0 ≡ i → pairs apart (keep (open_on p) (rows 19 m t 0)) ≡ true) → Passed t m i heads marks → (true ≡ true → Passed t m (i + 1) heads marks) × (true ≡ false → pairs apart (rows 19 m t 0) ≡ false)
+  pass_still : (i : ℕ) (marks : List ℕ) → ((p : ℕ) → p < 1024 → get_or heads p 0 ≡ i → pairs apart (keep (open_on p) rs) ≡ true) → Passed rs i heads marks → (true ≡ true → Passed rs (i + 1) heads marks) × (true ≡ false → pairs apart rs ≡ false)
   pass_still i marks g w = (
     λ y. pass i marks marks w.wide (λ b. omega (arith, w.most b)) g w,
     λ y. let z : ◌≡◌ {A = ℕ} 0 1 = cc in absurd (omega arith),
   )
 
   -- none follows it
-  pub pass_alone : (i next : ℕ) (marks : List ℕ) → next ≡ get_or after i 0 → m ≤ next → Passed t m i heads marks → (true ≡ true → Passed t m (i + 1) heads marks) × (true ≡ false → pairs apart (rows 19 m t 0) ≡ false)
-  pass_alone i next marks e h w =
-      pass_still i marks (λ p k f. chain_one (rw e at h) (rw f at (page_chain p k))) w
+  pub pass_alone : (i : ℕ) (marks : List ℕ) → length rs ≤ get_or after i 0 → Passed rs i heads marks → (true ≡ true → Passed rs (i + 1) heads marks) × (true ≡ false → pairs apart rs ≡ false)
+  pass_alone i marks h w = pass_still i marks (λ p k f. chain_one h (rw f at (page_chain p k))) w
 
   -- its page begins with another
-  pub pass_later : (i q head : ℕ) (marks : List ℕ) → i < m → q ≡ page_of (row_at 19 t i) → head ≡ get_or heads q 0 → (head ≡ i → ⊥) → Passed t m i heads marks → (true ≡ true → Passed t m (i + 1) heads marks) × (true ≡ false → pairs apart (rows 19 m t 0) ≡ false)
+  pub pass_later : (i q head : ℕ) (marks : List ℕ) → i < length rs → q ≡ page_of (get_or rs i []) → head ≡ get_or heads q 0 → (head ≡ i → ⊥) → Passed rs i heads marks → (true ≡ true → Passed rs (i + 1) heads marks) × (true ≡ false → pairs apart rs ≡ false)
   pass_later i q head marks h e f g w =
       pass_still i marks (λ p k d. absurd (g (f ∙ ap (λ (x : ℕ). get_or heads x 0) (e ∙ page_first i p h k d) ∙ d))) w
 
   -- its page begins with it
-  pub first_chain : (i q head : ℕ) → q ≡ page_of (row_at 19 t i) → q < 1024 → head ≡ get_or heads q 0 → head ≡ i → Chain t m after 0 i (keep (open_on (page_of (row_at 19 t i))) (rows 19 m t 0))
+  pub first_chain : (i q head : ℕ) → q ≡ page_of (get_or rs i []) → q < 1024 → head ≡ get_or heads q 0 → head ≡ i → Chain rs after 0 i (keep (open_on (page_of (get_or rs i []))) rs)
   first_chain i q head e h f g = rw (sym f ∙ g, e) at (page_chain q h)
 
-  pub pass_first : (i : ℕ) (marks d : List ℕ) (x : Bool) → i < m → every bounded (rows 19 m t 0) ≡ true → x ≡ free_rows (i * 64) marks (keep (open_on (page_of (row_at 19 t i))) (rows 19 m t 0)) → (x ≡ true → d ≡ with_rows (i * 64) marks (keep (open_on (page_of (row_at 19 t i))) (rows 19 m t 0))) → Passed t m i heads marks → (x ≡ true → Passed t m (i + 1) heads d) × (x ≡ false → pairs apart (rows 19 m t 0) ≡ false)
+  pub pass_first : (i : ℕ) (marks d : List ℕ) (x : Bool) → i < length rs → every bounded rs ≡ true → x ≡ free_rows (i * 64) marks (keep (open_on (page_of (get_or rs i []))) rs) → (x ≡ true → d ≡ with_rows (i * 64) marks (keep (open_on (page_of (get_or rs i []))) rs)) → Passed rs i heads marks → (x ≡ true → Passed rs (i + 1) heads d) × (x ≡ false → pairs apart rs ≡ false)
   pass_first i marks d x h k e f w =
-      let b = open_on (page_of (row_at 19 t i)) in
-      let l = keep b (rows 19 m t 0) in
-      let g : every bounded l ≡ true = every_keep b bounded (rows 19 m t 0) k in
-      let a : x ≡ pairs apart l = e ∙ rows_apart (page_of (row_at 19 t i)) (i * 64) l marks w.wide w.most (every_kept b b (λ r e. e) (rows 19 m t 0)) g in (
+      let b = open_on (page_of (get_or rs i [])) in
+      let l = keep b rs in
+      let g : every bounded l ≡ true = every_keep b bounded rs k in
+      let a : x ≡ pairs apart l = e ∙ rows_apart (page_of (get_or rs i [])) (i * 64) l marks w.wide w.most (every_kept b b (λ r e. e) rs) g in (
         λ y. rw (f y) (pass i marks (with_rows (i * 64) marks l) (rows_length (i * 64) l marks ∙ w.wide) (rows_most ((i + 1) * 64) (i * 64) l marks (omega arith) g (λ c. omega (arith, w.most c))) (λ p u v. rw (page_first i p h u v) at (sym a ∙ y)) w),
-        λ y. clash b (pairs apart (rows 19 m t 0)) refl (sym a ∙ y),
+        λ y. clash b (pairs apart rs) refl (sym a ∙ y),
       )
     where
-      clash : (b : List ℕ → Bool) (y : Bool) → pairs apart (rows 19 m t 0) ≡ y → pairs apart (keep b (rows 19 m t 0)) ≡ false → pairs apart (rows 19 m t 0) ≡ false
-      clash b true u v = absurd (not_both (pairs apart (keep b (rows 19 m t 0))) (pairs_keep b (rows 19 m t 0) u) v)
+      clash : (b : List ℕ → Bool) (y : Bool) → pairs apart rs ≡ y → pairs apart (keep b rs) ≡ false → pairs apart rs ≡ false
+      clash b true u v = absurd (not_both (pairs apart (keep b rs)) (pairs_keep b rs u) v)
       clash b false u v = u
 
-  pub pass_done : (i : ℕ) (marks : List ℕ) → m ≤ i → every (page_below 1024) (rows 19 m t 0) ≡ true → Passed t m i heads marks → true ≡ pairs apart (rows 19 m t 0)
+  pub pass_done : (i : ℕ) (marks : List ℕ) → length rs ≤ i → every (page_below 1024) rs ≡ true → Passed rs i heads marks → true ≡ pairs apart rs
   unfolding pairs
-  pass_done i marks h k w = sym (pages_pairs 1024 (rows 19 m t 0) k (λ p q. pick p q (ltb (get_or heads p 0) m) refl))
+  pass_done i marks h k w = sym (pages_pairs 1024 rs k (λ p q. pick p q (ltb (get_or heads p 0) (length rs)) refl))
     where
-      pick : (p : ℕ) → p < 1024 → (x : Bool) → ltb (get_or heads p 0) m ≡ x → pairs apart (keep (open_on p) (rows 19 m t 0)) ≡ true
-      pick p q true e = let g = ltb-true (get_or heads p 0) m e in w.clear p q (omega arith)
-      pick p q false e = rw (chain_none (ltb-false (get_or heads p 0) m e) (page_chain p q))
+      pick : (p : ℕ) → p < 1024 → (x : Bool) → ltb (get_or heads p 0) (length rs) ≡ x → pairs apart (keep (open_on p) rs) ≡ true
+      pick p q true e = let g = ltb-true (get_or heads p 0) (length rs) e in w.clear p q (omega arith)
+      pick p q false e = rw (chain_none (ltb-false (get_or heads p 0) (length rs) e) (page_chain p q))
 
-pub pass_none : (t : List ℕ) (m : ℕ) (heads : List ℕ) → Passed t m 0 heads (replicate 4096 0)
-pass_none t m heads = record {
+pub pass_none : (rs : List (List ℕ)) (heads : List ℕ) → Passed rs 0 heads (replicate 4096 0)
+pass_none rs heads = record {
   wide = length-replicate {A = ℕ} 4096 0;
   most = λ b. omega (arith, zeros_at 4096 b);
   clear = λ p h k. absurd (omega arith);
@@ -362,45 +366,73 @@ place_give tables size pages last l x z u y s e h =
     place size pages last tables s l b.0 b.1
 
 -- the loop over a row's bytes: those from k on are as they were, and decide as all do
-pub record Taking (a e base mine : ℕ) (was : List ℕ) (k : ℕ) (marks : List ℕ) : Type 0 where
-  pub free : up_to (free_byte base mine was) (e - k) k ≡ up_to (free_byte base mine was) (e - a) a
-  pub marked : mark_bytes mine (e - k) k marks ≡ mark_bytes mine (e - a) a was
+pub record Taking (base mine : ℕ) (was : List ℕ) (k : ℕ) (marks : List ℕ) : Type 0 where
+  pub free : up_to (free_byte base mine was) (length was - k) k ≡ up_to (free_byte base mine was) (length was) 0
+  pub marked : mark_bytes mine (length was - k) k marks ≡ mark_bytes mine (length was) 0 was
   pub rest : (b : ℕ) → k ≤ b → get_or marks b 0 ≡ get_or was b 0
 
-pub take_none : (a e base mine : ℕ) (was : List ℕ) → Taking a e base mine was a was
-take_none a e base mine was = record { free = refl; marked = refl; rest = λ b h. refl }
+module _ (base mine : ℕ) (was : List ℕ) where
+  pub take_none : Taking base mine was 0 was
+  take_none = let n : length was - 0 ≡ length was = omega arith in record { free = rw n; marked = rw n; rest = λ b h. refl }
 
-pub take_fail : (a e base mine : ℕ) (was : List ℕ) (k : ℕ) (marks d : List ℕ) → k < e → (ltb base (get_or marks k 0) && not (eqb (get_or marks k 0) mine)) ≡ true → Taking a e base mine was k marks → (false ≡ up_to (free_byte base mine was) (e - a) a) × (false ≡ true → marks ≡ d)
-unfolding free_byte
-take_fail a e base mine was k marks d h g t =
-    let f : free_byte base mine was k ≡ false = rw (t.rest k (omega arith)) at (ap not g) in (
-      up_to_fail (free_byte base mine was) e k (free_byte base mine was k) (up_to (free_byte base mine was) (e - a) a) h (ap not f) refl t.free,
-      λ z. let y : ◌≡◌ {A = ℕ} 0 1 = cc in absurd (omega arith),
-    )
+  pub take_fail : (k : ℕ) (marks b d : List ℕ) → k < length was → (ltb base (get_or marks k 0) && not (eqb (get_or marks k 0) mine)) ≡ true → Taking base mine was k marks → (false ≡ up_to (free_byte base mine was) (length was) 0) × (false ≡ true → b ≡ d)
+  unfolding free_byte
+  take_fail k marks b d h g t =
+      let f : free_byte base mine was k ≡ false = rw (t.rest k (omega arith)) at (ap not g) in (
+        up_to_fail (free_byte base mine was) (length was) k (free_byte base mine was k) (up_to (free_byte base mine was) (length was) 0) h (ap not f) refl t.free,
+        λ z. let y : ◌≡◌ {A = ℕ} 0 1 = cc in absurd (omega arith),
+      )
 
-pub take_turn : (a e base mine : ℕ) (was : List ℕ) (k : ℕ) (marks : List ℕ) → k < e → (ltb base (get_or marks k 0) && not (eqb (get_or marks k 0) mine)) ≡ false → Taking a e base mine was k marks → Taking a e base mine was (k + 1) (set marks k mine)
-unfolding free_byte mark_bytes
-take_turn a e base mine was k marks h g t =
-    let f : free_byte base mine was k ≡ true = rw (t.rest k (omega arith)) at (ap not g) in
-    let n : e - k ≡ suc (e - (k + 1)) = omega arith in
-    record {
-      free = up_to_turn (free_byte base mine was) e k (free_byte base mine was k) (up_to (free_byte base mine was) (e - a) a) h (ap not f) refl t.free;
-      marked = rw n at t.marked;
-      rest = λ b p. get_or-set_other marks k b mine 0 (λ q. omega arith) ∙ t.rest b (omega arith);
-    }
+  pub take_turn : (k : ℕ) (marks : List ℕ) → k < length was → (ltb base (get_or marks k 0) && not (eqb (get_or marks k 0) mine)) ≡ false → Taking base mine was k marks → Taking base mine was (k + 1) (set marks k mine)
+  unfolding free_byte mark_bytes
+  take_turn k marks h g t =
+      let f : free_byte base mine was k ≡ true = rw (t.rest k (omega arith)) at (ap not g) in
+      let n : length was - k ≡ suc (length was - (k + 1)) = omega arith in
+      record {
+        free = up_to_turn (free_byte base mine was) (length was) k (free_byte base mine was k) (up_to (free_byte base mine was) (length was) 0) h (ap not f) refl t.free;
+        marked = rw n at t.marked;
+        rest = λ b p. get_or-set_other marks k b mine 0 (λ q. omega arith) ∙ t.rest b (omega arith);
+      }
 
-pub take_done : (a e base mine : ℕ) (was : List ℕ) (k : ℕ) (marks : List ℕ) → e ≤ k → Taking a e base mine was k marks → (true ≡ up_to (free_byte base mine was) (e - a) a) × (true ≡ true → marks ≡ mark_bytes mine (e - a) a was)
+  pub take_done : (k : ℕ) (marks : List ℕ) → length was ≤ k → Taking base mine was k marks → (true ≡ up_to (free_byte base mine was) (length was) 0) × (true ≡ true → marks ≡ mark_bytes mine (length was) 0 was)
+  unfolding mark_bytes
+  take_done k marks h t =
+      let n : length was - k ≡ 0 = omega arith in
+      (up_to_done (free_byte base mine was) (length was) k (up_to (free_byte base mine was) (length was) 0) h t.free, λ z. rw n at t.marked)
+
+-- bytes of a part are bytes of the whole: what decides, and marks put back
+up_to_part : (b d : ℕ → Bool) (a n i : ℕ) → ((k : ℕ) → k < i + n → b k ≡ d (a + k)) → up_to b n i ≡ up_to d n (a + i)
+unfolding up_to
+up_to_part b d a zero i f = refl
+up_to_part b d a (suc n) i f =
+    let e : a + i + 1 ≡ a + (i + 1) = omega arith in
+    rw (f i (omega arith), up_to_part b d a n (i + 1) (λ k p. f k (omega arith)), e)
+
+mark_part : (mine n j a : ℕ) (front part back : List ℕ) → length front ≡ a → j + n ≤ length part → front ++ (mark_bytes mine n j part ++ back) ≡ mark_bytes mine n (a + j) (front ++ (part ++ back))
 unfolding mark_bytes
-take_done a e base mine was k marks h t =
-    let n : e - k ≡ 0 = omega arith in
-    (up_to_done (free_byte base mine was) e k (up_to (free_byte base mine was) (e - a) a) h t.free, λ z. rw n at t.marked)
+mark_part mine zero j a front part back e h = refl
+mark_part mine (suc n) j a front part back e h =
+    let l : j < length part = omega arith in
+    let q : j + 1 + n ≤ length (set part j mine) = omega (arith, length-set part j mine) in
+    let f : a + j - a ≡ j = omega arith in
+    let g : a + j + 1 ≡ a + (j + 1) = omega arith in
+    let s : set (front ++ (part ++ back)) (a + j) mine ≡ front ++ (set part j mine ++ back) =
+    set-append_right front (part ++ back) a (a + j) mine e (omega arith) ∙ ap (λ (i : ℕ). front ++ set (part ++ back) i mine) f ∙ ap (λ (z : List ℕ). front ++ z) (set-append_left part back j mine l) in
+    mark_part mine n (j + 1) a front (set part j mine) back e q ∙ rw (s, g)
 
 -- a row, by the fields that were read
 pub row_fits : (r : List ℕ) (x a w : ℕ) → x ≡ owner_of r → a ≡ offset_of r → w ≡ length_of r → bounded r ≡ true → (x ≤ 32) × (a + w ≤ 4096)
 row_fits r x a w e f g h = let k = placed_of r h in (rw e k.2, rw (f, g) k.1)
 
-pub row_taken : (base : ℕ) (marks d r : List ℕ) (x a w : ℕ) (y : Bool) → x ≡ owner_of r → a ≡ offset_of r → w ≡ length_of r → y ≡ up_to (free_byte base (base + x) marks) (a + w - a) a → (y ≡ true → d ≡ mark_bytes (base + x) (a + w - a) a marks) → (y ≡ free_row base marks r) × (y ≡ true → d ≡ with_row base marks r)
-unfolding free_row with_row
-row_taken base marks d r x a w y e f g h k =
-    let n : a + w - a ≡ w = omega arith in
-    (rw (← e, ← f, ← g) (rw n at h), λ t. rw (← e, ← f, ← g) (rw n at (k t)))
+pub row_taken : (base : ℕ) (marks d r : List ℕ) (x a w k : ℕ) (y : Bool) → x ≡ owner_of r → a ≡ offset_of r → w ≡ length_of r → k ≡ w → a + w ≤ length marks → y ≡ up_to (free_byte base (base + x) (part a k marks)) (length (part a k marks)) 0 → (y ≡ true → d ≡ mark_bytes (base + x) (length (part a k marks)) 0 (part a k marks)) → (y ≡ free_row base marks r) × (y ≡ true → put_mid a k marks d ≡ with_row base marks r)
+unfolding free_byte free_row with_row
+row_taken base marks d r x a w k y e f g h l p q =
+    let n : length (part a k marks) ≡ w = length_part a k marks (omega arith) ∙ h in
+    let z : a + 0 ≡ a = omega arith in
+    let m : length (take a marks) ≡ a = length-take-le a marks (omega arith) in
+    let u : up_to (free_byte base (base + x) (part a k marks)) w 0 ≡ up_to (free_byte base (base + x) marks) w a = rw z at (up_to_part (free_byte base (base + x) (part a k marks)) (free_byte base (base + x) marks) a w 0 (λ c s. free_at c (omega arith))) in
+    let v : put_mid a k marks (mark_bytes (base + x) w 0 (part a k marks)) ≡ mark_bytes (base + x) w a marks = rw z at (mark_part (base + x) w 0 a (take a marks) (part a k marks) (drop k (drop a marks)) m (omega arith) ∙ ap (λ (t : List ℕ). mark_bytes (base + x) w (a + 0) t) (put_same a k marks)) in
+    (rw (← e, ← f, ← g) (rw n at p ∙ u), λ t. rw (← e, ← f, ← g) (ap (λ (b : List ℕ). put_mid a k marks b) (rw n at (q t)) ∙ v))
+  where
+    free_at : (c : ℕ) → c < k → free_byte base (base + x) (part a k marks) c ≡ free_byte base (base + x) marks (a + c)
+    free_at c s = rw (get_d_part c a k marks s)

@@ -1,9 +1,9 @@
 -- S13 in one pass over the uncommitted rows: they are chained by page, and each page's rows mark their bytes.
 -- A mark tells the page and the owner that came last: 64 times the page, plus the owner. So a page's base, 64 times
 -- the page, is above the marks of all pages before it, and no mark is ever cleared.
-use Rattle.std.specs.Prelude.{ℕ, zero, suc, ◌+◌, ◌*◌, ◌-◌, ◌≤◌, ◌<◌, ◌≡◌, Bool, true, cond, not, ◌&&◌, List, [], ◌∷◌, length, get_or, set, eqb, leb, ltb}
-use Rattle.record.specs.Rows.{row_at, rows, keep}
-use Rattle.record.specs.Record.{online_width, page_of, offset_of, length_of, owner_of, committed}
+use Rattle.std.specs.Prelude.{ℕ, zero, suc, ◌+◌, ◌*◌, ◌≤◌, ◌<◌, ◌≡◌, Bool, true, cond, not, ◌&&◌, List, [], ◌∷◌, length, get_or, drop, set, eqb, leb, ltb}
+use Rattle.record.specs.Rows.{keep}
+use Rattle.record.specs.Record.{page_of, offset_of, length_of, owner_of, committed}
 use Rattle.rules.specs.Sound.{pairs, up_to, apart}
 
 -- an uncommitted row of page p
@@ -15,15 +15,15 @@ abbrev pub bounded : List ℕ → Bool
 bounded r = leb 1 (length_of r) && leb (offset_of r + length_of r) 4096 && leb (owner_of r) 32
 
 -- the rows from index j on, each followed by the one that `after` names; indices rise from `low`, and one that is no row's ends the chain
-pub data Chain (t : List ℕ) (m : ℕ) (after : List ℕ) : ℕ → ℕ → List (List ℕ) → Type 0 where
-  ends : {low j : ℕ} → m ≤ j → Chain t m after low j []
-  goes : {low j : ℕ} {l : List (List ℕ)} → low ≤ j → j < m → Chain t m after (j + 1) (get_or after j 0) l → Chain t m after low j (row_at online_width t j ∷ l)
+pub data Chain (rs : List (List ℕ)) (after : List ℕ) : ℕ → ℕ → List (List ℕ) → Type 0 where
+  ends : {low j : ℕ} → length rs ≤ j → Chain rs after low j []
+  goes : {low j : ℕ} {l : List (List ℕ)} → low ≤ j → j < length rs → Chain rs after (j + 1) (get_or after j 0) l → Chain rs after low j (get_or rs j [] ∷ l)
 
 -- each page's chain has its uncommitted rows from row i on
-pub record Linked (t : List ℕ) (m i : ℕ) (heads after : List ℕ) : Type 0 where
+pub record Linked (rs : List (List ℕ)) (i : ℕ) (heads after : List ℕ) : Type 0 where
   pub wide : length heads ≡ 1024
   pub long : length after ≡ 512
-  pub chains : (p : ℕ) → p < 1024 → Chain t m after i (get_or heads p 0) (keep (open_on p) (rows online_width (m - i) t i))
+  pub chains : (p : ℕ) → p < 1024 → Chain rs after i (get_or heads p 0) (keep (open_on p) (drop i rs))
 
 -- row i in front of its page's chain; a committed row is in none
 unfoldable pub heads_with : List ℕ → ℕ → List ℕ → List ℕ
@@ -58,7 +58,7 @@ with_rows base a [] = a
 with_rows base a (r ∷ l) = with_rows base (with_row base a r) l
 
 -- the walk over the rows, at row i: what earlier ones marked is at most 64 i, and each page that begins before has its rows apart
-pub record Passed (t : List ℕ) (m i : ℕ) (heads marks : List ℕ) : Type 0 where
+pub record Passed (rs : List (List ℕ)) (i : ℕ) (heads marks : List ℕ) : Type 0 where
   pub wide : length marks ≡ 4096
   pub most : (b : ℕ) → get_or marks b 0 ≤ i * 64
-  pub clear : (p : ℕ) → p < 1024 → get_or heads p 0 < i → pairs apart (keep (open_on p) (rows online_width m t 0)) ≡ true
+  pub clear : (p : ℕ) → p < 1024 → get_or heads p 0 < i → pairs apart (keep (open_on p) rs) ≡ true

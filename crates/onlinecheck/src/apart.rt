@@ -1,89 +1,77 @@
 // S13: uncommitted rows of different owners share no byte. By S7 and S8 a row's page, bytes and owner are in range.
 // The uncommitted rows are chained by page. Then, page by page, each marks its bytes with the page's first row and its owner:
 // a byte that another owner marked on this page is shared. Marks of pages that begin earlier are below this page's, and stay.
-ghost use Rattle.std.specs.Prelude.{◌≡◌, true, false, ◌+◌, ◌*◌, ◌-◌, ◌≤◌, ◌<◌, length};
-ghost use Rattle.record.specs.Rows.{row_at, rows, keep};
-ghost use Rattle.record.specs.Record.{online_width, page_of};
+ghost use Rattle.std.specs.Prelude.{◌≡◌, true, false, ◌+◌, ◌*◌, ◌≤◌, ◌<◌, [], length, get_or};
+ghost use Rattle.record.specs.Rows.{keep};
+ghost use Rattle.record.specs.Record.{page_of};
 ghost use Rattle.rules.specs.Sound.{every, pairs, up_to, apart};
 ghost use Rattle.rules.specs.Shape.{page_below};
 ghost use Rattle.onlinecheck.specs.Bytes.{open_on, bounded, Chain, Linked, Passed, heads_with, after_with, free_byte, mark_bytes, free_row, with_row, free_rows, with_rows};
 
 use super::few;
+use record::row;
+use record::row::OnlineRow;
 
 // Row i goes in front of its page's chain, unless it is committed.
-fn link_row(t: &[u8], i: usize, heads: &mut [u16; 1024], after: &mut [u16; 512])
-    requires { (i * online_width + online_width ≤ length t.now) × (i < 512) × (page_of (row_at online_width t.now i) < 1024) }
-    ensures { (heads.new ≡ heads_with heads.old i (row_at online_width t.now i)) × (after.new ≡ after_with heads.old after.old i (row_at online_width t.now i)) }
+fn link_row(row: &OnlineRow, i: usize, heads: &mut [u16; 1024], after: &mut [u16; 512])
+    requires { (i < 512) × (page_of row.now < 1024) }
+    ensures { (heads.new ≡ heads_with heads.old i row.now) × (after.new ≡ after_with heads.old after.old i row.now) }
 {
-    let x = record::owner_of(t, i);
+    let x = row::owner_of(row);
     if x == 0 {
         return;
     }
-    let p = record::page_of(t, record::ONLINE_WIDTH, i);
-    let at = p.0;
-    let next = heads[at];
-    after[i] = next;
-    heads[at] = i as u16;
+    let p = row::page_of(row);
+    after[i] = heads[p.0];
+    heads[p.0] = i as u16;
 }
 
 // From the last row to the first, so that a chain has its rows in table order.
-fn link(t: &[u8], m: usize, heads: &mut [u16; 1024], after: &mut [u16; 512])
-    requires { (m * online_width ≤ length t.now) × (m ≤ 512) × (every (page_below 1024) (rows online_width m t.now 0) ≡ true) × Linked t.now m m heads.old after.old }
-    ensures { Linked t.now m 0 heads.new after.new }
+#[tactic(auto, using(crate::proofs::Rows::page_at))]
+fn link(online: &[OnlineRow], heads: &mut [u16; 1024], after: &mut [u16; 512])
+    requires { (length online.now ≤ 512) × (every (page_below 1024) online.now ≡ true) × Linked online.now (length online.now) heads.old after.old }
+    ensures { Linked online.now 0 heads.new after.new }
 {
-    let mut i = m;
-    while 0 < i {
-        i -= 1;
-        link_row(t, i, heads, after);
+    for i in (0..online.len()).rev() {
+        link_row(&online[i], i, heads, after);
     }
 }
 
-// The bytes from a to e have no mark of another owner on this page, and get this owner's.
-fn take_bytes(a: usize, e: usize, base: u16, mine: u16, marks: &mut [u16; 4096]) -> bool
-    requires { (a ≤ e) × (e ≤ 4096) }
-    ensures { (result ≡ up_to (free_byte base mine marks.old) (e - a) a) × (result ≡ true → marks.new ≡ mark_bytes mine (e - a) a marks.old) }
+// The bytes have no mark of another owner on this page, and get this owner's.
+fn take_bytes(bytes: &mut [u16], base: u16, mine: u16) -> bool
+    ensures { (result ≡ up_to (free_byte base mine bytes.old) (length bytes.old) 0) × (result ≡ true → bytes.new ≡ mark_bytes mine (length bytes.old) 0 bytes.old) }
 {
-    let mut k = a;
-    while k < e {
-        let was = marks[k];
-        if (base < was) & (was != mine) {
+    for mark in bytes.iter_mut() {
+        if (base < *mark) & (*mark != mine) {
             return false;
         }
-        marks[k] = mine;
-        k += 1;
+        *mark = mine;
     }
     true
 }
 
-fn take_row(t: &[u8], i: usize, base: u16, marks: &mut [u16; 4096]) -> bool
-    requires { (i * online_width + online_width ≤ length t.now) × (base ≤ 65472) × (bounded (row_at online_width t.now i) ≡ true) }
-    ensures { (result ≡ free_row base marks.old (row_at online_width t.now i)) × (result ≡ true → marks.new ≡ with_row base marks.old (row_at online_width t.now i)) }
+fn take_row(row: &OnlineRow, base: u16, marks: &mut [u16; 4096]) -> bool
+    requires { (base ≤ 65472) × (bounded row.now ≡ true) }
+    ensures { (result ≡ free_row base marks.old row.now) × (result ≡ true → marks.new ≡ with_row base marks.old row.now) }
 {
-    let x = record::owner_of(t, i);
-    let a = record::offset_of(t, record::ONLINE_WIDTH, i);
-    let w = record::length_of(t, record::ONLINE_WIDTH, i);
-    let mine = base + x as u16;
-    take_bytes(a, a + w, base, mine, marks)
+    let a = row::offset_of(row);
+    let w = row::length_of(row);
+    let mine = base + u16::from(row::owner_of(row));
+    take_bytes(&mut marks[a..a + w], base, mine)
 }
 
-fn index(v: u16) -> usize
-    ensures { result ≡ v }
-{
-    v as usize
-}
-
-// The uncommitted rows of row i's page, whose chain begins with row i.
-fn chain_apart(t: &[u8], m: usize, i: usize, after: &[u16; 512], marks: &mut [u16; 4096]) -> bool
-    requires { (m * online_width ≤ length t.now) × (m ≤ 512) × (i < m) × (every bounded (rows online_width m t.now 0) ≡ true) × Chain t.now m after.now 0 i (keep (open_on (page_of (row_at online_width t.now i))) (rows online_width m t.now 0)) }
-    ensures { (result ≡ free_rows (i * 64) marks.old (keep (open_on (page_of (row_at online_width t.now i))) (rows online_width m t.now 0))) × (result ≡ true → marks.new ≡ with_rows (i * 64) marks.old (keep (open_on (page_of (row_at online_width t.now i))) (rows online_width m t.now 0))) }
+// The uncommitted rows of row i's page, whose chain begins with row i. An index past the last row ends a chain.
+fn chain_apart(online: &[OnlineRow], i: usize, after: &[u16; 512], marks: &mut [u16; 4096]) -> bool
+    requires { (length online.now ≤ 512) × (i < length online.now) × (every bounded online.now ≡ true) × Chain online.now after.now 0 i (keep (open_on (page_of (get_or online.now i []))) online.now) }
+    ensures { (result ≡ free_rows (i * 64) marks.old (keep (open_on (page_of (get_or online.now i []))) online.now)) × (result ≡ true → marks.new ≡ with_rows (i * 64) marks.old (keep (open_on (page_of (get_or online.now i []))) online.now)) }
 {
     let base = (i * 64) as u16;
     let mut j = i;
-    while j < m {
-        if !take_row(t, j, base, marks) {
+    while let Some(row) = online.get(j) {
+        if !take_row(row, base, marks) {
             return false;
         }
-        j = index(after[j]);
+        j = usize::from(after[j]);
     }
     true
 }
@@ -91,91 +79,84 @@ fn chain_apart(t: &[u8], m: usize, i: usize, after: &[u16; 512], marks: &mut [u1
 // A row that is alone on its page clashes with none, and its bytes need no mark: other pages look at none of this page.
 // So a page is looked at where its first row is passed, if another follows.
 fn row_apart(
-    t: &[u8],
-    m: usize,
+    online: &[OnlineRow],
     i: usize,
     heads: &[u16; 1024],
     after: &[u16; 512],
     marks: &mut [u16; 4096],
 ) -> bool
-    requires { (m * online_width ≤ length t.now) × (m ≤ 512) × (i < m) × (every (page_below 1024) (rows online_width m t.now 0) ≡ true) × (every bounded (rows online_width m t.now 0) ≡ true) × Linked t.now m 0 heads.now after.now × Passed t.now m i heads.now marks.old }
-    ensures { (result ≡ true → Passed t.now m (i + 1) heads.now marks.new) × (result ≡ false → pairs apart (rows online_width m t.now 0) ≡ false) }
+    requires { (length online.now ≤ 512) × (i < length online.now) × (every (page_below 1024) online.now ≡ true) × (every bounded online.now ≡ true) × Linked online.now 0 heads.now after.now × Passed online.now i heads.now marks.old }
+    ensures { (result ≡ true → Passed online.now (i + 1) heads.now marks.new) × (result ≡ false → pairs apart online.now ≡ false) }
 {
-    let next = index(after[i]);
-    if m <= next {
+    let next = usize::from(after[i]);
+    if online.len() <= next {
         return true;
     }
-    let p = record::page_of(t, record::ONLINE_WIDTH, i);
-    let at = p.0;
-    let head = index(heads[at]);
+    let p = row::page_of(&online[i]);
+    let head = usize::from(heads[p.0]);
     if head != i {
         return true;
     }
-    chain_apart(t, m, i, after, marks)
+    chain_apart(online, i, after, marks)
 }
 
+#[tactic(auto, using(crate::proofs::Bytes::pass_done))]
 fn rows_apart(
-    t: &[u8],
-    m: usize,
+    online: &[OnlineRow],
     heads: &[u16; 1024],
     after: &[u16; 512],
     marks: &mut [u16; 4096],
 ) -> bool
-    requires { (m * online_width ≤ length t.now) × (m ≤ 512) × (every (page_below 1024) (rows online_width m t.now 0) ≡ true) × (every bounded (rows online_width m t.now 0) ≡ true) × Linked t.now m 0 heads.now after.now × Passed t.now m 0 heads.now marks.old }
-    ensures { result ≡ pairs apart (rows online_width m t.now 0) }
+    requires { (length online.now ≤ 512) × (every (page_below 1024) online.now ≡ true) × (every bounded online.now ≡ true) × Linked online.now 0 heads.now after.now × Passed online.now 0 heads.now marks.old }
+    ensures { result ≡ pairs apart online.now }
 {
-    let mut i = 0;
-    while i < m {
-        if !row_apart(t, m, i, heads, after, marks) {
+    for i in 0..online.len() {
+        if !row_apart(online, i, heads, after, marks) {
             return false;
         }
-        i += 1;
     }
     true
 }
 
-// 512 is no row's index.
-fn by_pages(t: &[u8], m: usize) -> bool
-    requires { (m * online_width ≤ length t.now) × (m ≤ 512) × (every (page_below 1024) (rows online_width m t.now 0) ≡ true) × (every bounded (rows online_width m t.now 0) ≡ true) }
-    ensures { result ≡ pairs apart (rows online_width m t.now 0) }
+// No row's index: a table has 512 rows at most. Chains are of indices, for there is no heap, and 2 bytes each, for the stack is small.
+const NO_ROW: u16 = 512;
+
+#[tactic(auto, using(crate::proofs::Chains::link_start))]
+fn by_pages(online: &[OnlineRow]) -> bool
+    requires { (length online.now ≤ 512) × (every (page_below 1024) online.now ≡ true) × (every bounded online.now ≡ true) }
+    ensures { result ≡ pairs apart online.now }
 {
-    let mut heads = [512u16; 1024];
-    let mut after = [512u16; 512];
+    let mut heads = [NO_ROW; 1024];
+    let mut after = [NO_ROW; 512];
     let mut marks = [0u16; 4096];
-    link(t, m, &mut heads, &mut after);
-    rows_apart(t, m, &heads, &after, &mut marks)
+    link(online, &mut heads, &mut after);
+    rows_apart(online, &heads, &after, &mut marks)
 }
 
-// No uncommitted row is of another owner than the last that was seen; 0 while none was.
-fn one_owner(t: &[u8], m: usize) -> bool
-    requires { m * online_width ≤ length t.now }
-    ensures { result ≡ true → pairs apart (rows online_width m t.now 0) ≡ true }
+// All uncommitted rows are of the first one's owner.
+fn one_owner(online: &[OnlineRow]) -> bool
+    ensures { result ≡ true → pairs apart online.now ≡ true }
 {
-    let mut mine = 0u8;
-    let mut i = m;
-    while 0 < i {
-        i -= 1;
-        let x = record::owner_of(t, i);
-        if (x != 0) & (mine != 0) & (x != mine) {
-            return false;
-        }
-        if x != 0 {
-            mine = x;
-        }
-    }
-    true
+    let Some(i) = online.iter().position(|row| row::owner_of(row) != 0) else {
+        return true;
+    };
+    let x = row::owner_of(&online[i]);
+    online[i + 1..].iter().all(|row| {
+        let y = row::owner_of(row);
+        (y == 0) | (y == x)
+    })
 }
 
 // The rows of one owner clash with none, so chains and marks are for two owners or more, and pay once rows are many.
-pub fn all_apart(t: &[u8], m: usize) -> bool
-    requires { (m * online_width ≤ length t.now) × (m ≤ 512) × (every (page_below 1024) (rows online_width m t.now 0) ≡ true) × (every bounded (rows online_width m t.now 0) ≡ true) }
-    ensures { result ≡ pairs apart (rows online_width m t.now 0) }
+pub fn all_apart(online: &[OnlineRow]) -> bool
+    requires { (length online.now ≤ 512) × (every (page_below 1024) online.now ≡ true) × (every bounded online.now ≡ true) }
+    ensures { result ≡ pairs apart online.now }
 {
-    if one_owner(t, m) {
+    if one_owner(online) {
         return true;
     }
-    if m <= 16 {
-        return few::all_apart_few(t, m);
+    if online.len() <= 16 {
+        return few::all_apart_few(online);
     }
-    by_pages(t, m)
+    by_pages(online)
 }

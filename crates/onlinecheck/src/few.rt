@@ -1,66 +1,58 @@
 // S13 for few rows: each uncommitted row is compared with all later ones, which for few is less than chains and marks.
-ghost use Rattle.std.specs.Prelude.{◌≡◌, ◌+◌, ◌*◌, ◌-◌, ◌≤◌, ◌<◌, length};
-ghost use Rattle.record.specs.Rows.{row_at, rows};
-ghost use Rattle.record.specs.Record.{online_width, share_byte};
+ghost use Rattle.std.specs.Prelude.{◌≡◌, ◌<◌};
+ghost use Rattle.record.specs.Record.{share_byte};
 ghost use Rattle.rules.specs.Sound.{every, pairs, apart};
 
-fn share(t: &[u8], i: usize, j: usize) -> bool
-    requires { (i * online_width + online_width ≤ length t.now) × (j * online_width + online_width ≤ length t.now) }
-    ensures { result ≡ share_byte (row_at online_width t.now i) (row_at online_width t.now j) }
+use record::row;
+use record::row::OnlineRow;
+
+#[tactic(auto, using(crate::proofs::Laws::share_other, crate::proofs::Laws::share_same))]
+fn share(row: &OnlineRow, other: &OnlineRow) -> bool
+    ensures { result ≡ share_byte row.now other.now }
 {
-    let p = record::page_of(t, record::ONLINE_WIDTH, i);
-    let q = record::page_of(t, record::ONLINE_WIDTH, j);
-    if p.0 != q.0 {
+    let p = row::page_of(row);
+    let q = row::page_of(other);
+    if p != q {
         return false;
     }
-    let a = record::offset_of(t, record::ONLINE_WIDTH, i);
-    let b = record::offset_of(t, record::ONLINE_WIDTH, j);
-    let k = record::length_of(t, record::ONLINE_WIDTH, i);
-    let l = record::length_of(t, record::ONLINE_WIDTH, j);
+    let a = row::offset_of(row);
+    let b = row::offset_of(other);
+    let k = row::length_of(row);
+    let l = row::length_of(other);
     (a < b + l) & (b < a + k)
 }
 
-fn is_apart(t: &[u8], i: usize, j: usize) -> bool
-    requires { (i * online_width + online_width ≤ length t.now) × (j * online_width + online_width ≤ length t.now) }
-    ensures { result ≡ apart (row_at online_width t.now i) (row_at online_width t.now j) }
+#[tactic(auto, using(crate::proofs::Laws::apart_free, crate::proofs::Laws::apart_row))]
+fn is_apart(row: &OnlineRow, other: &OnlineRow) -> bool
+    ensures { result ≡ apart row.now other.now }
 {
-    let x = record::owner_of(t, i);
-    let y = record::owner_of(t, j);
+    let x = row::owner_of(row);
+    let y = row::owner_of(other);
     if (x == 0) | (y == 0) | (x == y) {
         return true;
     }
-    !share(t, i, j)
+    !share(row, other)
 }
 
-// Row i and each later row; one that is committed is apart from all.
-fn apart_after(t: &[u8], i: usize, m: usize) -> bool
-    requires { (i < m) × (m * online_width ≤ length t.now) }
-    ensures { result ≡ every (apart (row_at online_width t.now i)) (rows online_width (m - (i + 1)) t.now (i + 1)) }
+// A row and each later one; one that is committed is apart from all.
+fn apart_after(row: &OnlineRow, later: &[OnlineRow]) -> bool
+    ensures { result ≡ every (apart row.now) later.now }
 {
-    let x = record::owner_of(t, i);
+    let x = row::owner_of(row);
     if x == 0 {
         return true;
     }
-    let mut j = i + 1;
-    while j < m {
-        if !is_apart(t, i, j) {
-            return false;
-        }
-        j += 1;
-    }
-    true
+    later.iter().all(|other| is_apart(row, other))
 }
 
-pub fn all_apart_few(t: &[u8], m: usize) -> bool
-    requires { m * online_width ≤ length t.now }
-    ensures { result ≡ pairs apart (rows online_width m t.now 0) }
+#[tactic(auto, using(crate::proofs::Rows::pairs_fail, crate::proofs::Rows::pairs_turn, crate::proofs::Rows::pairs_done))]
+pub fn all_apart_few(online: &[OnlineRow]) -> bool
+    ensures { result ≡ pairs apart online.now }
 {
-    let mut i = 0;
-    while i < m {
-        if !apart_after(t, i, m) {
+    for (i, row) in online.iter().enumerate() {
+        if !apart_after(row, &online[i + 1..]) {
             return false;
         }
-        i += 1;
     }
     true
 }

@@ -1,39 +1,39 @@
 // S10: a committed row is the log's row of its number. By S8 no number is above the last.
-ghost use Rattle.std.specs.Prelude.{◌≡◌, ◌+◌, ◌*◌, ◌-◌, ◌≤◌, ◌<◌, length};
-ghost use Rattle.record.specs.Rows.{row_at};
-ghost use Rattle.record.specs.Record.{online_width, log_width, number_of, body_of};
+ghost use Rattle.std.specs.Prelude.{◌≡◌, ◌+◌, ◌-◌, ◌≤◌, ◌<◌, length};
+ghost use Rattle.record.specs.Record.{number_of, body_of};
 ghost use Rattle.rules.specs.Sound.{same};
 ghost use Rattle.onlinecheck.specs.Online.{in_log};
 
-// The record of online row i is log row j, byte for byte: compared as numbers, since equal numbers have equal bytes.
+use number::LogNo;
+use record::row;
+use record::row::{LogRow, OnlineRow};
+
+// The online row's record is the log row, byte for byte: compared as numbers, since equal numbers have equal bytes.
 // They are the fields, which the row's other tests have read too.
-fn same_row(t: &[u8], i: usize, log: &[u8], j: usize) -> bool
-    requires { (i * online_width + online_width ≤ length t.now) × (j * log_width + log_width ≤ length log.now) }
-    ensures { result ≡ same (body_of (row_at online_width t.now i)) (row_at log_width log.now j) }
+fn same_row(row: &OnlineRow, logged: &LogRow) -> bool
+    ensures { result ≡ same (body_of row.now) logged.now }
 {
-    let a = i * record::ONLINE_WIDTH;
-    let b = j * record::LOG_WIDTH;
-    (word::load(t, a, 2) == word::load(log, b, 2))
-        & (word::load(t, a + record::OFFSET_AT, 2) == word::load(log, b + record::OFFSET_AT, 2))
-        & (word::load(t, a + record::LENGTH_AT, 1) == word::load(log, b + record::LENGTH_AT, 1))
-        & (word::load(t, a + record::KIND_AT, 1) == word::load(log, b + record::KIND_AT, 1))
-        & (word::load(t, a + record::VALUE_AT, 8) == word::load(log, b + record::VALUE_AT, 8))
+    (row::page_of(row) == row::page_of(logged))
+        & (row::offset_of(row) == row::offset_of(logged))
+        & (row::length_of(row) == row::length_of(logged))
+        & (row::kind_of(row) == row::kind_of(logged))
+        & (row::value_of(row) == row::value_of(logged))
 }
 
 #[tactic(auto, using(crate::proofs::Laws::log_free, crate::proofs::Laws::log_before, crate::proofs::Laws::log_row))]
-pub fn is_logged(t: &[u8], i: usize, log: &[u8], n: usize, last: u64) -> bool
-    requires { (i * online_width + online_width ≤ length t.now) × (n * log_width ≤ length log.now) × (n ≤ last) × (last < 4294967296) × (number_of (row_at online_width t.now i) ≤ last) }
-    ensures { result ≡ in_log log.now (last - n + 1) (row_at online_width t.now i) }
+pub fn is_logged(row: &OnlineRow, log: &[LogRow], last: u64) -> bool
+    requires { (length log.now ≤ last) × (last < 4294967296) × (number_of row.now ≤ last) }
+    ensures { result ≡ in_log log.now (last - length log.now + 1) row.now }
 {
-    let x = record::owner_of(t, i);
+    let x = row::owner_of(row);
     if x != 0 {
         return true;
     }
-    let k = record::number_of(t, i);
-    let first = last - n as u64 + 1;
-    if k.0 < first {
+    let k = row::number_of(row);
+    let first = LogNo(last - log.len() as u64 + 1);
+    if k < first {
         return false;
     }
-    let j = (k.0 - first) as usize;
-    same_row(t, i, log, j)
+    let j = (k.0 - first.0) as usize;
+    same_row(row, &log[j])
 }

@@ -1,44 +1,46 @@
 // S9: no nonzero number occurs twice. By S8 and S10 a nonzero number is one of the log's.
-ghost use Rattle.std.specs.Prelude.{◌≡◌, true, ◌+◌, ◌*◌, ◌≤◌, length};
-ghost use Rattle.record.specs.Rows.{row_at, rows};
+ghost use Rattle.std.specs.Prelude.{◌≡◌, true};
 ghost use Rattle.rules.specs.Sound.{every, pairs};
-ghost use Rattle.record.specs.Record.{online_width};
 ghost use Rattle.onlinecheck.specs.Online.{other_number};
 ghost use Rattle.onlinecheck.specs.Marks.{slotted, unmarked, with_number, all_unmarked};
 
-// The number of row i is not marked yet, and is marked from now on.
-fn take_number(t: &[u8], i: usize, first: u64, marks: &mut [u8; 2048]) -> bool
-    requires { (i * online_width + online_width ≤ length t.now) × (slotted first (row_at online_width t.now i) ≡ true) }
-    ensures { (result ≡ unmarked first marks.old (row_at online_width t.now i)) × (marks.new ≡ with_number first marks.old (row_at online_width t.now i)) }
+use number::LogNo;
+use record::row;
+use record::row::OnlineRow;
+
+// The row's number is not marked yet, and is marked from now on.
+fn take_number(row: &OnlineRow, first: LogNo, marks: &mut [bool; 2048]) -> bool
+    requires { slotted first.0 row.now ≡ true }
+    ensures { (result ≡ unmarked first.0 marks.old row.now) × (marks.new ≡ with_number first.0 marks.old row.now) }
 {
-    let k = record::number_of(t, i);
+    let k = row::number_of(row);
     if k.0 == 0 {
         return true;
     }
-    let at = (k.0 - first) as usize;
+    let at = (k.0 - first.0) as usize;
     let was = marks[at];
-    marks[at] = 1;
-    !(was == 1)
+    marks[at] = true;
+    !was
 }
 
-fn all_free(t: &[u8], m: usize, first: u64, marks: &mut [u8; 2048]) -> bool
-    requires { (m * online_width ≤ length t.now) × (every (slotted first) (rows online_width m t.now 0) ≡ true) }
-    ensures { result ≡ all_unmarked first (rows online_width m t.now 0) marks.old }
+#[tactic(auto, using(crate::proofs::Rows::every_at, crate::proofs::Marks::free_fail, crate::proofs::Marks::free_done))]
+fn all_free(online: &[OnlineRow], first: LogNo, marks: &mut [bool; 2048]) -> bool
+    requires { every (slotted first.0) online.now ≡ true }
+    ensures { result ≡ all_unmarked first.0 online.now marks.old }
 {
-    let mut i = 0;
-    while i < m {
-        if !take_number(t, i, first, marks) {
+    for row in online {
+        if !take_number(row, first, marks) {
             return false;
         }
-        i += 1;
     }
     true
 }
 
-pub fn all_once(t: &[u8], m: usize, first: u64) -> bool
-    requires { (m * online_width ≤ length t.now) × (every (slotted first) (rows online_width m t.now 0) ≡ true) }
-    ensures { result ≡ pairs other_number (rows online_width m t.now 0) }
+#[tactic(auto, using(crate::proofs::Marks::free_once))]
+pub fn all_once(online: &[OnlineRow], first: LogNo) -> bool
+    requires { every (slotted first.0) online.now ≡ true }
+    ensures { result ≡ pairs other_number online.now }
 {
-    let mut marks = [0u8; 2048];
-    all_free(t, m, first, &mut marks)
+    let mut marks = [false; 2048];
+    all_free(online, first, &mut marks)
 }

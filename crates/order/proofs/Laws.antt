@@ -4,10 +4,11 @@ use native.Mathlib.Omega.{arith}
 use native.Mathlib.Numerals.{add-one}
 use native.Mathlib.Nat.{add-zero, le_refl}
 use mathlib.Core.Path.{◌≡◌, refl, sym, ap, ◌∙◌}
-use mathlib.Core.Bool.{Bool, true, false, cond, ◌||◌, or-true, or-false}
+use mir.Val.{bool_byte}
+use mathlib.Core.Bool.{Bool, true, false, cond, not, ◌||◌, or-true, or-false}
 use mathlib.Core.List.{List, [], ◌∷◌, ◌++◌, append-nil}
-use lib.ListN.{length, get_or, take, set, replicate, length-append, length-take, length-set, length-replicate, get_or-eq_default}
-use lib.Seq.{take-suc, take-suc-set, take-set-le, take_all, get_or-set_same, get_or-set_other}
+use lib.ListN.{length, get_or, take, set, replicate, length-append, length-set, length-replicate}
+use lib.Seq.{take-suc, take-suc-set, take-set-le, get_or-set_same, get_or-set_other}
 use lib.Dec.{eqb}
 use borrow.Author.Tests.{eqb-true, eqb-false}
 use Rattle.order.specs.Order.{named, without, touched, victim, frame_from, frame_for}
@@ -33,13 +34,6 @@ pub copy_turn : (t s : List ℕ) (i : ℕ) → i < length s → i < length t →
 copy_turn t s i p q e =
     rw add-one (take-suc-set s i (get_or t i 0) p ∙ ap (λ (l : List ℕ). l ++ (get_or t i 0 ∷ [])) e ∙ sym (take-suc t i 0 q))
 
-pub copy_done : (t s : List ℕ) (n i : ℕ) → i ≤ n → n ≤ i → take i s ≡ take i t → take n s ≡ take n t
-copy_done t s n i p q e = let a : i ≡ n = omega arith in rw a at e
-
--- past the order's end
-pub at_past : (n i : ℕ) (l : List ℕ) → n ≤ i → 0 ≡ get_or (take n l) i 0
-at_past n i l h = sym (get_or-eq_default (take n l) 0 (omega (arith, length-take n l)))
-
 -- one more frame leaves or stays
 pub without_last : (f g : ℕ) (o : List ℕ) → without f (o ++ (g ∷ [])) ≡ without f o ++ cond (eqb g f) [] (g ∷ [])
 unfolding without
@@ -50,16 +44,13 @@ without_last f g (x ∷ o) = go (eqb x f) _ _ (without_last f g o)
     go true l k e = e
     go false l k e = ap (λ (m : List ℕ). x ∷ m) e
 
-keep_turn : (b : Bool) (s : List ℕ) (k g : ℕ) → k < length s → take (k + cond b 0 1) (set s k g) ≡ take k s ++ cond b [] (g ∷ [])
+keep_turn : (b : Bool) (s : List ℕ) (k g : ℕ) → k < length s → take (k + bool_byte (not b)) (set s k g) ≡ take k s ++ cond b [] (g ∷ [])
 keep_turn true s k g p = rw add-zero (take-set-le k s k g (le_refl k) ∙ sym (append-nil (take k s)))
 keep_turn false s k g p = rw add-one (take-suc-set s k g p)
 
-pub free_turn : (f g r : ℕ) (from s : List ℕ) (k i : ℕ) → i < length from → k < length s → g ≡ get_or from i 0 → r ≡ cond (eqb g f) 0 1 → take k s ≡ without f (take i from) → take (k + r) (set s k (get_or from i 0)) ≡ without f (take (i + 1) from)
+pub free_turn : (f g r : ℕ) (from s : List ℕ) (k i : ℕ) → i < length from → k < length s → g ≡ get_or from i 0 → r ≡ bool_byte (not (eqb g f)) → take k s ≡ without f (take i from) → take (k + r) (set s k (get_or from i 0)) ≡ without f (take (i + 1) from)
 free_turn f g r from s k i p q e₁ e₂ e =
     rw (e₂, ← e₁, add-one i, take-suc from i 0 p, ← e₁, without_last, ← e) (keep_turn (eqb g f) s k g q)
-
-pub free_done : (f : ℕ) (from s : List ℕ) (n k i : ℕ) → i ≤ n → n ≤ i → take k s ≡ without f (take i from) → take k s ≡ without f (take n from)
-free_done f from s n k i p q e = let a : i ≡ n = omega arith in rw a at e
 
 -- the frame freed and put last
 pub touch_last : (f : ℕ) (o s : List ℕ) (n : ℕ) → n < length s → take n s ≡ without f o → take (n + 1) (set s n f) ≡ touched f o
@@ -81,9 +72,9 @@ named_last f g (x ∷ o) = go (eqb x f) _ _ (named_last f g o)
     go false c d e = e
 
 -- nothing is marked at first
-pub marks_none : (l : List ℕ) → Marks (replicate 256 false) (take 0 l)
+pub marks_none : Marks (replicate 256 false) []
 unfolding named
-marks_none l = record { long = refl; tells = λ f h. blank_at 256 f false }
+marks_none = record { long = refl; tells = λ f h. blank_at 256 f false }
 
 mark_at : (m : List Bool) (f g : ℕ) (b : Bool) → f < length m → get_or m f false ≡ b → get_or (set m g true) f false ≡ (b || eqb g f)
 mark_at m f g b h e = go (eqb g f) refl
@@ -101,9 +92,6 @@ mark_turn m o g w =
 
 pub marks_turn : (m : List Bool) (l : List ℕ) (i g : ℕ) → i < length l → g ≡ get_or l i 0 → Marks m (take i l) → Marks (set m g true) (take (i + 1) l)
 marks_turn m l i g p e w = rw (add-one, take-suc l i 0 p, ← e) (mark_turn m (take i l) g w)
-
-pub marks_done : (m : List Bool) (l : List ℕ) (n i : ℕ) → i ≤ n → n ≤ i → Marks m (take i l) → (f : ℕ) → f < 256 → get_or m f false ≡ named f (take n l)
-marks_done m l n i p q w = let a : i ≡ n = omega arith in (rw a at w).tells
 
 -- the search for a free frame: one that is in use, one that is free, none
 pub frame_start : (n : ℕ) (o : List ℕ) → frame_from (n - 0) 0 o ≡ frame_for n o
@@ -132,8 +120,3 @@ pub save_turn : (l t : List ℕ) (n i v : ℕ) → i < n → length t ≡ n → 
 save_turn l t n i v p q e h =
     rw (e ∙ sym (padded_at l n i))
     (copy_turn (l ++ replicate n 0) t i (omega arith) (omega (arith, length-append l (replicate n 0), length-replicate {A = ℕ} n 0)) h)
-
-pub save_done : (l t : List ℕ) (n i : ℕ) → n ≤ i → i ≤ n → length t ≡ n → take i t ≡ take i (l ++ replicate n 0) → t ≡ take n (l ++ replicate n 0)
-save_done l t n i p q r h =
-    let a : i ≡ n = omega arith in
-    sym (take_all i t (omega arith)) ∙ h ∙ ap (λ (k : ℕ). take k (l ++ replicate n 0)) a

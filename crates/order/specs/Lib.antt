@@ -1,3 +1,2 @@
 -- What the contracts of `order` cite.
 pub mod Order
-pub mod Meant

@@ -4,11 +4,10 @@ use native.Mathlib.Omega.{arith}
 use native.Mathlib.Nat.{min-eq_left, min-eq_right}
 use mathlib.Core.Path.{◌≡◌, refl, sym, ap, ◌∙◌}
 use mathlib.Core.Bool.{Bool, true, false, cond}
-use mathlib.Core.List.{List, ◌++◌, append-nil}
+use mathlib.Core.List.{List}
 use lib.ListN.{length, get_or, drop, set, replicate}
-use lib.Seq.{get_or-take, get_or-drop, get_or-set_same, drop-length}
+use lib.Seq.{get_or-take, get_or-drop, get_or-set_same}
 use borrow.Author.Tests.{eq-eqb, ne_eqb}
-use borrow.Author.Fill.{fill_more}
 use Rattle.word.specs.Word.{num}
 use Rattle.word.proofs.Tests.{among_four}
 use Rattle.word.proofs.Puts.{get_d_put_below}
@@ -47,15 +46,6 @@ pub drop_zeros : (n k : ℕ) → drop {A = ℕ} k (replicate n 0) ≡ replicate 
 drop_zeros n zero = let e : n - 0 ≡ n = omega arith in rw e
 drop_zeros zero (suc k) = let e : 0 - suc k ≡ 0 = omega arith in rw e
 drop_zeros (suc n) (suc k) = let e : suc n - suc k ≡ n - k = omega arith in rw e (drop_zeros n k)
-
--- a loop that writes zeros from the front: a turn and the end
-pub wipe_turn : (i : ℕ) (d l : List ℕ) → i < length d → l ≡ replicate i 0 ++ drop i d → set l i 0 ≡ replicate (i + 1) 0 ++ drop (i + 1) d
-wipe_turn i d l h e = ap (λ (x : List ℕ). set x i 0) e ∙ fill_more i 0 d h
-
-pub wipe_end : (i : ℕ) (d l : List ℕ) → i ≤ length d → length d ≤ i → l ≡ replicate i 0 ++ drop i d → l ≡ replicate (length d) 0
-wipe_end i d l p q e =
-    let h : i ≡ length d = omega arith in
-    e ∙ ap (λ (k : ℕ). replicate k 0 ++ drop k d) h ∙ ap (λ (x : List ℕ). replicate (length d) 0 ++ x) (drop-length d) ∙ append-nil (replicate (length d) 0)
 
 -- the smaller of two numbers, where 0 is none: none so far, the old one, the new one
 pub lesser_none : (a b : ℕ) → a ≡ 0 → b ≡ lesser a b

@@ -4,3 +4,4 @@ pub mod Fields
 pub mod Rows
 pub mod Changes
 pub mod Parts
+pub mod Listed

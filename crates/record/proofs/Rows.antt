@@ -53,28 +53,6 @@ keep_rows_more b w m t i h = ap (λ (l : List (List ℕ)). keep b l) (rows_more 
 pub keep_rows_end : (b : List ℕ → Bool) (w m : ℕ) (t : List ℕ) (i : ℕ) → m ≤ i → keep b (rows w (m - i) t i) ≡ []
 keep_rows_end b w m t i h = ap (λ (l : List (List ℕ)). keep b l) (rows_end w m t i h) ∙ keep_nil b
 
--- a loop over the rows that does something at each row of a kind: F is what all of them do, g what one does
-module _ (F : List (List ℕ) → List ℕ → List ℕ) (g : List ℕ → List ℕ → List ℕ) (none : (x : List ℕ) → F [] x ≡ x) (more : (r : List ℕ) (rs : List (List ℕ)) (x : List ℕ) → F (r ∷ rs) x ≡ F rs (g r x)) (b : List ℕ → Bool) (m : ℕ) (l : List ℕ) where
-  pub each_start : (x : List ℕ) → F (keep b (rows 19 (m - 0) l 0)) x ≡ F (keep b (rows 19 m l 0)) x
-  each_start x = ap (λ (rs : List (List ℕ)). F (keep b rs) x) (rows_start 19 m l)
-
-  each_one : (c : Bool) (r : List ℕ) (rs : List (List ℕ)) (x : List ℕ) → F (cons_if c r rs) x ≡ F rs (cond c (g r x) x)
-  each_one true r rs x = more r rs x
-  each_one false r rs x = refl
-
-  pub each_turn : (i : ℕ) (x x' z : List ℕ) → i < m → x' ≡ cond (b (row_at 19 l i)) (g (row_at 19 l i) x) x → F (keep b (rows 19 (m - i) l i)) x ≡ z → F (keep b (rows 19 (m - (i + 1)) l (i + 1))) x' ≡ z
-  each_turn i x x' z h q p =
-      let rs : List (List ℕ) = keep b (rows 19 (m - (i + 1)) l (i + 1)) in
-      ap (λ (y : List ℕ). F rs y) q ∙ sym (each_one (b (row_at 19 l i)) (row_at 19 l i) rs x)
-      ∙ ap (λ (y : List (List ℕ)). F y x) (sym (keep_rows_more b 19 m l i h)) ∙ p
-
-  pub each_end : (i : ℕ) (x z : List ℕ) → m ≤ i → F (keep b (rows 19 (m - i) l i)) x ≡ z → x ≡ z
-  each_end i x z h p = sym (none x) ∙ ap (λ (y : List (List ℕ)). F y x) (sym (keep_rows_end b 19 m l i h)) ∙ p
-
--- a count of the kept rows
-pub count_start : (b : List ℕ → Bool) (w m : ℕ) (t : List ℕ) (n : ℕ) → n + length (keep b (rows w (m - 0) t 0)) ≡ n + length (keep b (rows w m t 0))
-count_start b w m t n = ap (λ (l : List (List ℕ)). n + length (keep b l)) (rows_start w m t)
-
 step_length : (z : Bool) (x : List ℕ) (l : List (List ℕ)) (n : ℕ) → n + length (cons_if z x l) ≡ cond z (n + 1) n + length l
 step_length true x l n = omega arith
 step_length false x l n = refl

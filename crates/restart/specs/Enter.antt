@@ -1,11 +1,11 @@
 -- Restart's test and list of rows, over the marks and the number of pages alone.
-use Rattle.std.specs.Prelude.{ℕ, ◌+◌, ◌*◌, ◌-◌, ◌≤◌, ◌<◌, ◌≡◌, Bool, true, not, ◌&&◌, List, [], ◌∷◌, length, eqb, leb}
+use Rattle.std.specs.Prelude.{ℕ, ◌+◌, ◌*◌, ◌-◌, ◌≤◌, ◌≡◌, Bool, true, not, ◌&&◌, List, [], ◌∷◌, length, eqb, leb}
 use Rattle.word.specs.Word.{num}
-use Rattle.record.specs.Rows.{row_at, rows, cons_if}
+use Rattle.record.specs.Rows.{rows, cons_if}
 use Rattle.record.specs.Record.{log_width, page_of, entered, well_formed}
 use Rattle.rules.specs.Lent.{fixed_length, marks_length, last_in, closed_in, logged_in, pages_in, frames_in, Lent, stamp_at, dirty_at, size_of, pages_of, online_size_of, log_size_of, last_of, logged_of, log_of}
 use Rattle.rules.specs.Sound.{every}
-use Rattle.rules.specs.Shape.{Sized}
+use Rattle.rules.specs.Shape.{page_below, Sized}
 use Rattle.rules.specs.Steps.{entering_all}
 
 -- `enters` and `entering` of the rules, by what they read
@@ -24,11 +24,6 @@ first_by marks = last_in marks - logged_in marks + 1
 abbrev pub all_by : List ℕ → List ℕ → List ℕ → List (List ℕ)
 all_by fixed marks log = entering_by marks (pages_in fixed) (first_by marks) (rows log_width (logged_in marks) log 0)
 
--- n log rows lie in the log and name pages
-pub record Logged (log : List ℕ) (n pages : ℕ) : Type 0 where
-  pub within : n * log_width ≤ length log
-  pub inside : (i : ℕ) → i < n → page_of (row_at log_width log i) < pages
-
 -- the durable part can be read
 pub record Readable (fixed marks log : List ℕ) : Type 0 where
   pub fixed_exact : length fixed ≡ fixed_length
@@ -36,7 +31,8 @@ pub record Readable (fixed marks log : List ℕ) : Type 0 where
   pub pages_most : pages_in fixed ≤ 1024
   pub frames_most : frames_in fixed ≤ 64
   pub last_least : logged_in marks ≤ last_in marks
-  pub logged : Logged log (logged_in marks) (pages_in fixed)
+  pub within : logged_in marks * log_width ≤ length log
+  pub inside : every (page_below (pages_in fixed)) (rows log_width (logged_in marks) log 0) ≡ true
 
 -- what restart asks of the durable part: soundness gives it
 abbrev pub Restartable : Lent → Type 0

@@ -1,4 +1,5 @@
 -- Lists of refusals: one test at a time, all of them, and two lists that begin alike. And what the test of an owner's number says.
+use Rattle.std.specs.Prelude.{Ok, Err}
 use Prim.Native.Nat.{ℕ, zero, suc, ◌≤◌}
 use mathlib.Core.Path.{◌≡◌, refl, sym, ap, ◌∙◌}
 use mathlib.Core.Bool.{Bool, true, false}
@@ -7,12 +8,11 @@ use lib.Dec.{leb}
 use borrow.Author.Tests.{leb-true}
 use Rattle.word.proofs.Tests.{and_both}
 use Rattle.rules.specs.declared.Refusal.{Refusal}
-use Rattle.rules.specs.declared.Verdict.{Verdict}
-use Rattle.rules.specs.declared.Verdict.TheVariants.{Go, Refuse}
+use Rattle.rules.specs.Calls.{Verdict}
 use Rattle.rules.specs.Calls.{Test, refuse_if, verdict_of, is_number}
 
 -- the test holds: its refusal
-pub refused : (b : Bool) (r : Refusal) (v : Verdict) → b ≡ true → Refuse r ≡ refuse_if b r v
+pub refused : (b : Bool) (r : Refusal) (v : Verdict) → b ≡ true → Err r ≡ refuse_if b r v
 unfolding refuse_if
 refused b r v e = sym (ap (λ (t : Bool). refuse_if t r v) e)
 
@@ -22,7 +22,7 @@ unfolding refuse_if
 passed b r v w e h = h ∙ sym (ap (λ (t : Bool). refuse_if t r v) e)
 
 -- no refusal, so no test held
-pub went : (b : Bool) (r : Refusal) (v : Verdict) → refuse_if b r v ≡ Go → (b ≡ false) × (v ≡ Go)
+pub went : (b : Bool) (r : Refusal) (v : Verdict) → refuse_if b r v ≡ Ok tt → (b ≡ false) × (v ≡ Ok tt)
 unfolding refuse_if
 went true r v e = let z : ◌≡◌ {A = Bool} false true = cc in absurd (mathlib.Core.Bool.false≢true z)
 went false r v e = (refl, e)
@@ -38,15 +38,15 @@ one_more t ts e f zero = e
 one_more t ts e f (suc i) = f i
 
 -- no refusal exactly if no test holds
-pub failed : (ts : List Test) → verdict_of ts ≡ Go → (i : ℕ) → test_at ts i ≡ false
+pub failed : (ts : List Test) → verdict_of ts ≡ Ok tt → (i : ℕ) → test_at ts i ≡ false
 unfolding verdict_of
 failed [] e i = refl
 failed (t ∷ ts) e i = let h = went t.holds t.gives (verdict_of ts) e in one_more t ts h.0 (failed ts h.1) i
 
-pub all_failed : (ts : List Test) → ((i : ℕ) → test_at ts i ≡ false) → verdict_of ts ≡ Go
+pub all_failed : (ts : List Test) → ((i : ℕ) → test_at ts i ≡ false) → verdict_of ts ≡ Ok tt
 unfolding verdict_of
 all_failed [] f = refl
-all_failed (t ∷ ts) f = sym (passed t.holds t.gives (verdict_of ts) Go (f 0) (sym (all_failed ts (λ i. f (suc i)))))
+all_failed (t ∷ ts) f = sym (passed t.holds t.gives (verdict_of ts) (Ok tt) (f 0) (sym (all_failed ts (λ i. f (suc i)))))
 
 -- lists that begin alike: what follows matters where none of the first tests holds
 pub past_all : (R : Verdict → Verdict → Type 0) → ((v : Verdict) → R v v) → (first ts us : List Test) → (((i : ℕ) → test_at first i ≡ false) → R (verdict_of ts) (verdict_of us)) → R (verdict_of (first ++ ts)) (verdict_of (first ++ us))
@@ -55,7 +55,7 @@ past_all R same [] ts us f = f (λ i. refl)
 past_all R same (t ∷ first) ts us f = go t.holds (λ e. past_all R same first ts us (λ g. f (one_more t first e g)))
   where
     go : (b : Bool) → (b ≡ false → R (verdict_of (first ++ ts)) (verdict_of (first ++ us))) → R (refuse_if b t.gives (verdict_of (first ++ ts))) (refuse_if b t.gives (verdict_of (first ++ us)))
-    go true k = same (Refuse t.gives)
+    go true k = same (Err t.gives)
     go false k = k refl
 
 -- a number's bounds

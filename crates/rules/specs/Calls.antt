@@ -1,13 +1,11 @@
 -- The calls: the refusals in 01's order, and what is left. A refusal leaves every lent byte. docs/RULES.md 8.
-use Rattle.std.specs.Prelude.{ℕ, ◌+◌, ◌^◌, Bool, true, false, not, ◌&&◌, List, [], ◌∷◌, length, get_or, eqb, leb, ltb}
+use Rattle.std.specs.Prelude.{ℕ, ◌+◌, ◌^◌, Bool, true, false, not, ◌&&◌, List, [], ◌∷◌, length, get_or, eqb, leb, ltb, Ok, Err, Result}
 use Rattle.record.specs.Rows.{any}
 use Rattle.record.specs.Record.{owner_of, committed, is_length, row_of, overlaps}
 use Rattle.rules.specs.declared.Params.{Params}
 use Rattle.rules.specs.declared.Bad.TheVariants.{Page, Number, Length, Place, Value, Kind, Parameter, Lent as LentLength}
 use Rattle.rules.specs.declared.Refusal.{Refusal}
 use Rattle.rules.specs.declared.Refusal.TheVariants.{NotSound, Argument, ShortBuffer, NotLive, Live, Held, OnlineFull, LogFull, NumbersEnd, NoFrame}
-use Rattle.rules.specs.declared.Verdict.{Verdict}
-use Rattle.rules.specs.declared.Verdict.TheVariants.{Go, Refuse}
 use Rattle.rules.specs.declared.Answer.{Answer}
 use Rattle.rules.specs.declared.Answer.TheVariants.{Done, NotDue, Refused}
 use Rattle.rules.specs.Lent.{fixed_length, Lent, size_of, pages_of, online_size_of, log_size_of, last_of, logged_of, count_of, live_at, entry_of, online_of, in_frame}
@@ -20,6 +18,10 @@ pub record Outcome : Type 0 where
   pub lent : Lent
   pub buffer : List ℕ
 
+-- what judging says: the call may go on, or is refused
+abbrev pub Verdict : Type 0
+Verdict = Result (Unit {0}) Refusal
+
 -- a refusal, and the test that gives it
 pub record Test : Type 0 where
   pub gives : Refusal
@@ -31,12 +33,12 @@ r when b = record { gives = r; holds = b }
 
 -- a refusal if the test holds, else what follows
 unfoldable pub refuse_if : Bool → Refusal → Verdict → Verdict
-refuse_if true r v = Refuse r
+refuse_if true r v = Err r
 refuse_if false r v = v
 
 -- "Checked in the order listed": the first test that holds refuses
 unfoldable pub verdict_of : List Test → Verdict
-verdict_of [] = Go
+verdict_of [] = Ok tt
 verdict_of (t ∷ ts) = refuse_if t.holds t.gives (verdict_of ts)
 
 -- "Checked first by every call except format"
@@ -48,8 +50,8 @@ done_with d buffer = record { answer = Done (record { reads = d.reads; writes = 
 
 -- "A refusal gives its number and zero counts, and every lent byte keeps its value."
 abbrev pub settled : Verdict → Lent → List ℕ → Outcome → Outcome
-settled Go s buffer o = o
-settled (Refuse r) s buffer o = record { answer = Refused r; lent = s; buffer = buffer }
+settled (Ok tt) s buffer o = o
+settled (Err r) s buffer o = record { answer = Refused r; lent = s; buffer = buffer }
 
 -- "transaction number | 1 to 32"
 abbrev pub is_number : ℕ → Bool

@@ -1,8 +1,10 @@
 -- Soundness as its two parts, and the shape that it gives.
-use Prim.Native.Nat.{◌≤◌}
+use Prim.Native.Nat.{◌*◌, ◌≤◌}
 use mathlib.Core.Path.{◌≡◌, refl, sym, ap, ◌∙◌}
-use mathlib.Core.Bool.{Bool, true, false, not, ◌&&◌}
+use mathlib.Core.Bool.{Bool, true, false, ◌&&◌}
+use lib.ListN.{drop}
 use Rattle.word.proofs.Tests.{and_both}
+use Rattle.record.specs.Rows.{rows}
 use Rattle.rules.specs.Lent.{Lent, size_of, pages_of, frames_of, online_size_of, last_of, logged_of, count_of}
 use Rattle.rules.specs.Sound.{sound_lost, sound, s3_counts, s20_live, s4_entries, s5_frame_once, s6_order, s14_order_zero, s7_online_records, s8_owners, s14_online_zero, s10_in_log, s11_above_stamp, s9_number_once, s12_dirty, s13_apart}
 use Rattle.rules.specs.Shape.{Shaped}
@@ -13,14 +15,6 @@ use Rattle.onlinecheck.specs.Online.{online_test}
 use Rattle.onlinecheck.proofs.Laws.{online_is}
 use Rattle.rules.proofs.Ranges.{durable_sized, durable_logged}
 
--- a test that came out false, and one that came out true, in front of another
-pub and_refused : (r a b : Bool) → r ≡ a → not r ≡ true → false ≡ (a && b)
-and_refused true a b e h = absurd (mathlib.Core.Bool.false≢true h)
-and_refused false a b e h = ap (λ (t : Bool). t && b) e
-
-pub and_kept : (a b r : Bool) → a ≡ true → r ≡ b → r ≡ (a && b)
-and_kept a b r e h = h ∙ sym (ap (λ (t : Bool). t && b) e)
-
 -- the lost part is the tables' test and the online table's
 nine : (t a b c d e f g h : Bool) → (t && (a && b && c && d && e && f && g && h)) ≡ (t && a && b && c && d && e && f && g && h)
 nine true a b c d e f g h = refl
@@ -30,9 +24,9 @@ abbrev tables_of : Lent → Bool
 tables_of s = tables_test s.lost.tables (pages_of s) (frames_of s) (online_size_of s)
 
 abbrev rows_of : Lent → Bool
-rows_of s = online_test s.lost.online (count_of s) s.durable.log (logged_of s) s.durable.marks s.lost.tables (size_of s) (pages_of s) (frames_of s) (last_of s)
+rows_of s = online_test (rows 19 (count_of s) s.lost.online 0) (drop (count_of s * 19) s.lost.online) (rows 14 (logged_of s) s.durable.log 0) s.durable.marks s.lost.tables (size_of s) (pages_of s) (frames_of s) (last_of s)
 
-pub lost_is : (s : Lent) → (tables_test s.lost.tables (pages_of s) (frames_of s) (online_size_of s) && online_test s.lost.online (count_of s) s.durable.log (logged_of s) s.durable.marks s.lost.tables (size_of s) (pages_of s) (frames_of s) (last_of s)) ≡ sound_lost s
+pub lost_is : (s : Lent) → (tables_test s.lost.tables (pages_of s) (frames_of s) (online_size_of s) && online_test (rows 19 (count_of s) s.lost.online 0) (drop (count_of s * 19) s.lost.online) (rows 14 (logged_of s) s.durable.log 0) s.durable.marks s.lost.tables (size_of s) (pages_of s) (frames_of s) (last_of s)) ≡ sound_lost s
 unfolding sound_lost
 lost_is s =
     (λ i. tables_is s i && online_is s i)

@@ -15,11 +15,7 @@ fn clerk_of(marks: &[u8], tables: &[u8]) -> Clerk
     ensures { (result.live ≡ part 3 32 tables.now) × (result.last ≡ last_in marks.now) }
 {
     let mut live = [0u8; 32];
-    let mut i = 0;
-    while i < 32 {
-        live[i] = tables[layout::LIVES_AT + i];
-        i += 1;
-    }
+    fill::copy(&mut live, &tables[layout::LIVES_AT..layout::ORDER_AT]);
     let last = word::load(marks, layout::LAST_AT, 4) as u32;
     Clerk { live, last }
 }
@@ -39,8 +35,7 @@ fn make_live(marks: &[u8], tables: &mut [u8], x: u32)
     ensures { tables.new ≡ set tables.old (live_at x) 1 }
 {
     let c = clerk_of(marks, tables);
-    let ruled = c.begin(x);
-    let after = ruled.clerk;
+    let after = c.begin(x).unwrap();
     save_live(tables, after);
 }
 

@@ -18,8 +18,8 @@ fn vacate(tables: &mut [u8], frames: usize, p: PageNo)
     let at = layout::ORDER_AT + frames + p.0;
     let e = tables[at];
     tables[at] = e % 2;
-    let f = (e / 2) as usize - 1;
-    frames::save_order(tables, frames, order.free(FrameNo(f)));
+    let f = usize::from(e / 2) - 1;
+    frames::save_order(tables, frames, &order.free(FrameNo(f)));
 }
 
 pub fn evict(

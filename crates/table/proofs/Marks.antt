@@ -1,15 +1,15 @@
 -- Laws of the walks that mark the pages of rows: which pages are marked, and the turns of the loop.
-use Prim.Native.Nat.{ℕ, ◌+◌, ◌-◌, ◌≤◌, ◌<◌}
+use Prim.Native.Nat.{ℕ, ◌+◌, ◌≤◌, ◌<◌}
 use mathlib.Core.Path.{◌≡◌, refl, sym, ap, ◌∙◌}
 use mathlib.Core.Bool.{Bool, true, false, cond, ◌||◌, or-true, or-false}
 use mathlib.Core.List.{List, [], ◌∷◌}
-use lib.ListN.{length, get_or, set, replicate, length-set, length-replicate, get_or-replicate}
+use lib.ListN.{length, get_or, set, drop, replicate, length-set, length-replicate, get_or-replicate}
 use lib.Seq.{get_or-set_same, get_or-set_other}
 use lib.Dec.{eqb}
 use borrow.Author.Tests.{eqb-true, eqb-false, eq-eqb}
-use Rattle.record.specs.Rows.{row_at, rows, keep, any}
+use Rattle.record.specs.Rows.{keep, any}
 use Rattle.record.specs.Record.{page_of, on_page}
-use Rattle.record.proofs.Rows.{each_start, each_turn, each_end}
+use Rattle.record.proofs.Listed.{done_more, done_all}
 use Rattle.table.specs.Marks.{mark_pages}
 
 -- a page is marked if it was, or if a row is of it
@@ -48,12 +48,9 @@ marked_cons : (r : List ℕ) (rs : List (List ℕ)) (x : List ℕ) → mark_page
 unfolding mark_pages
 marked_cons r rs x = refl
 
-module _ (b : List ℕ → Bool) (m : ℕ) (l : List ℕ) where
-  pub marked_start : (x : List ℕ) → mark_pages (keep b (rows 19 (m - 0) l 0)) x ≡ mark_pages (keep b (rows 19 m l 0)) x
-  marked_start = each_start mark_pages mark_one marked_nil marked_cons b m l
+module _ (b : List ℕ → Bool) (rs : List (List ℕ)) where
+  pub marked_more : (i : ℕ) (x x' z : List ℕ) → i < length rs → x' ≡ cond (b (get_or rs i [])) (set x (page_of (get_or rs i [])) 1) x → mark_pages (keep b (drop i rs)) x ≡ z → mark_pages (keep b (drop (i + 1) rs)) x' ≡ z
+  marked_more = done_more mark_pages mark_one marked_nil marked_cons b rs
 
-  pub marked_turn : (i : ℕ) (x x' z : List ℕ) → i < m → x' ≡ cond (b (row_at 19 l i)) (set x (page_of (row_at 19 l i)) 1) x → mark_pages (keep b (rows 19 (m - i) l i)) x ≡ z → mark_pages (keep b (rows 19 (m - (i + 1)) l (i + 1))) x' ≡ z
-  marked_turn = each_turn mark_pages mark_one marked_nil marked_cons b m l
-
-  pub marked_end : (i : ℕ) (x z : List ℕ) → m ≤ i → mark_pages (keep b (rows 19 (m - i) l i)) x ≡ z → x ≡ z
-  marked_end = each_end mark_pages mark_one marked_nil marked_cons b m l
+  pub marked_all : (i : ℕ) (x z : List ℕ) → length rs ≤ i → mark_pages (keep b (drop i rs)) x ≡ z → x ≡ z
+  marked_all = done_all mark_pages mark_one marked_nil marked_cons b rs

@@ -4,14 +4,13 @@ use native.Mathlib.Omega.{arith}
 use native.Mathlib.Nat.{zero-add, suc-add, not-suc-le-zero, le_of_suc-le-suc}
 use native.Mathlib.Numerals.{add-one}
 use mathlib.Core.Path.{◌≡◌, refl, sym, ap, ◌∙◌}
-use mathlib.Core.List.{List, [], ◌∷◌, ◌++◌, append-nil, append_assoc}
-use lib.ListN.{length, take, drop, get_or, set, replicate, take-append-drop, length-drop}
-use lib.Seq.{take-length, take_all, take-add, drop-drop, length-take-le, get_or-append-add, get_or-drop}
-use lib.ListN.{drop_of_length-le, length-set}
+use mathlib.Core.List.{List, [], ◌∷◌, ◌++◌, append_assoc}
+use lib.ListN.{length, take, drop, get_or, set, length-drop}
+use lib.Seq.{take-add, drop-drop, length-take-le, get_or-append-add, get_or-drop}
 use Rattle.record.specs.Part.{part, with_part}
 use Rattle.record.proofs.Parts.{length_part, with_take, with_drop}
 
--- `copy`: the first i bytes are copied
+-- one byte more of a list copied over the front of another
 copy_suc : (i : ℕ) (s d : List ℕ) → i < length s → length s ≤ length d → set (take i s ++ drop i d) i (get_or s i 0) ≡ take (suc i) s ++ drop (suc i) d
 copy_suc i [] d h k = absurd (not-suc-le-zero h)
 copy_suc i (x ∷ s) [] h k = absurd (not-suc-le-zero k)
@@ -20,14 +19,6 @@ copy_suc (suc i) (x ∷ s) (y ∷ d) h k = ap (λ (l : List ℕ). x ∷ l) (copy
 
 copy_more : (i : ℕ) (s d : List ℕ) → i < length s → length s ≤ length d → set (take i s ++ drop i d) i (get_or s i 0) ≡ take (i + 1) s ++ drop (i + 1) d
 copy_more i s d h k = copy_suc i s d h k ∙ ap (λ (n : ℕ). take n s ++ drop n d) (sym (add-one i))
-
-pub copy_turn : (i : ℕ) (s d l : List ℕ) → i < length s → length s ≤ length d → l ≡ take i s ++ drop i d → set l i (get_or s i 0) ≡ take (i + 1) s ++ drop (i + 1) d
-copy_turn i s d l h k e = ap (λ (x : List ℕ). set x i (get_or s i 0)) e ∙ copy_more i s d h k
-
-pub copy_end : (i : ℕ) (s d l : List ℕ) → i ≤ length s → length s ≤ i → l ≡ take i s ++ drop i d → l ≡ s ++ drop (length s) d
-copy_end i s d l p q e =
-    let h : i ≡ length s = omega arith in
-    e ∙ ap (λ (k : ℕ). take k s ++ drop k d) h ∙ ap (λ (x : List ℕ). x ++ drop (length s) d) (take-length s)
 
 -- `slide`: the first i bytes are moved
 pub set_append_add : (xs ys : List ℕ) (n a : ℕ) → set (xs ++ ys) (length xs + n) a ≡ xs ++ set ys n a
@@ -69,32 +60,6 @@ slide_turn l s from to i n p q h e =
     ∙ ap (λ (x : ℕ). set (with_part to i l (part from i l)) (to + i) x) (slide_reads l from to i n p q h)
     ∙ slide_more l from to i n p q h
 
-pub slide_start : (l : List ℕ) (from to : ℕ) → l ≡ with_part to 0 l (part from 0 l)
-slide_start l from to = sym (take-append-drop to l)
-
-pub slide_end : (l s : List ℕ) (from to i n : ℕ) → i ≤ n → n ≤ i → s ≡ with_part to i l (part from i l) → s ≡ with_part to n l (part from n l)
-slide_end l s from to i n p q e = let h : i ≡ n = omega arith in e ∙ ap (λ (k : ℕ). with_part to k l (part from k l)) h
-
-pub slide_stays : (l : List ℕ) (from to n : ℕ) → to ≡ from → l ≡ with_part to n l (part from n l)
-slide_stays l from to n e =
-    sym (take-append-drop to l) ∙ ap (λ (x : List ℕ). take to l ++ x) (sym (take-append-drop n (drop to l)))
-    ∙ ap (λ (k : ℕ). with_part to n l (part k n l)) e
-
--- `clear`: the part from a place to the end
-pub clear_end : (a : ℕ) (l ys : List ℕ) → a ≤ length l → ys ≡ replicate (length (take (length l - a) (drop a l))) 0
-    → with_part a (length l - a) l ys ≡ take a l ++ replicate (length l - a) 0
-clear_end a l ys h e =
-    let k : length (drop a l) ≡ length l - a = length-drop a l in
-    let k₁ : length (drop a l) ≤ length l - a = omega arith in
-    let k₂ : take (length l - a) (drop a l) ≡ drop a l = take_all (length l - a) (drop a l) k₁ in
-    ap (λ (x : List ℕ). take a l ++ (ys ++ x)) (drop_of_length-le (drop a l) k₁)
-    ∙ ap (λ (x : List ℕ). take a l ++ x) (append-nil ys)
-    ∙ ap (λ (x : List ℕ). take a l ++ x) (e ∙ ap (λ (x : List ℕ). replicate (length x) 0) k₂ ∙ ap (λ (x : ℕ). replicate x 0) k)
-
--- two stores keep the length
-pub length_set_set : (l x : List ℕ) (i a j b : ℕ) → length x ≡ length (set (set l i a) j b) → length x ≡ length l
-length_set_set l x i a j b e = e ∙ length-set (set l i a) j b ∙ length-set l i a
-
 -- a lent part that comes back
 pub lent_back : (a e k : ℕ) (l ys zs : List ℕ) → e ≡ a + k → ys ≡ zs → with_part a (e - a) l ys ≡ with_part a k l zs
 lent_back a e k l ys zs h q =
@@ -106,22 +71,6 @@ lent_length a k l h =
     let d : a + k - a ≡ k = omega arith in
     let g : k ≤ length (drop a l) = rw (length-drop a l) (omega arith) in
     ap (λ (n : ℕ). length (take n (drop a l))) d ∙ length-take-le k (drop a l) g
-
--- `slide_row`, `slide_block`: what goes by way of another list r of as many bytes is the part itself
-pub slid_by : (w from to : ℕ) (l z r ys : List ℕ) → to ≤ from → from + w ≤ length l → length z ≡ w
-    → r ≡ take (from + w - from) (drop from l) ++ drop (length (take (from + w - from) (drop from l))) z
-    → ys ≡ r ++ drop (length r) (take (to + w - to) (drop to l)) → ys ≡ part from w l
-slid_by w from to l z r ys h g k e q =
-    let s : List ℕ = take (from + w - from) (drop from l) in
-    let p : List ℕ = take (to + w - to) (drop to l) in
-    let ls : length s ≡ w = lent_length from w l g in
-    let gt : to + w ≤ length l = omega arith in
-    let lp : length p ≡ w = lent_length to w l gt in
-    let lz : length z ≤ length s = omega arith in
-    let rs : r ≡ s = e ∙ ap (λ (x : List ℕ). s ++ x) (drop_of_length-le z lz) ∙ append-nil s in
-    let le : length p ≤ length r = omega (arith, ap length rs) in
-    let d : from + w - from ≡ w = omega arith in
-    q ∙ ap (λ (x : List ℕ). r ++ x) (drop_of_length-le p le) ∙ append-nil r ∙ rs ∙ ap (λ (n : ℕ). take n (drop from l)) d
 
 -- `slide`: bytes moved after the first i, which are moved already
 pub slide_join : (l s t : List ℕ) (from to i k : ℕ) → to ≤ from → from + (i + k) ≤ length l → s ≡ with_part to i l (part from i l)

@@ -1,25 +1,19 @@
 -- The turns and ends of this crate's loops over rows.
 use Prim.Native.Nat.{ℕ, suc, ◌+◌, ◌*◌, ◌-◌, ◌≤◌, ◌<◌}
 use native.Mathlib.Omega.{arith}
-use native.Mathlib.Nat.{zero-add}
-use native.Mathlib.Numerals.{add-one}
-use mathlib.Core.Path.{◌≡◌, refl, sym, ap, subst, ◌∙◌}
-use mathlib.Core.Bool.{Bool, true, false, cond, not, ◌&&◌}
-use mathlib.Core.List.{List, ◌∷◌, ◌++◌, append_assoc, append-nil, map}
-use lib.ListN.{length, take, drop, replicate, take-append-drop, length-append, length-drop, drop_of_length-le}
-use lib.Seq.{take-take, drop-drop, length-take-le}
-use lib.Dec.{eqb}
-use borrow.Author.Tests.{eq-eqb, ne_eqb}
-use Rattle.word.specs.Word.{put}
-use Rattle.word.proofs.Laws.{length_put}
+use mathlib.Core.Path.{◌≡◌, refl, sym, ap, ◌∙◌}
+use mathlib.Core.Bool.{Bool, true, false, cond}
+use mathlib.Core.List.{List, [], ◌∷◌, ◌++◌, append_assoc, append-nil, map}
+use lib.ListN.{length, get_or, take, drop, replicate, take-append-drop, length-append, length-drop}
+use lib.Seq.{drop-drop, length-take-le}
 use Rattle.record.specs.Part.{part, with_part}
 use Rattle.record.specs.Rows.{row_at, rows, joined, table, cons_if, keep}
-use Rattle.record.specs.Record.{page_of, owner_of, body_of, owned_by, gone, entered, numbered, number_rows}
+use Rattle.record.specs.Record.{body_of, owned_by, numbered, number_rows}
 use Rattle.record.proofs.Parts.{length_part, with_take, with_drop, with_length}
-use Rattle.record.proofs.Rows.{rows_more, rows_end, rows_start, keep_rows_more, keep_rows_end, row_width, sub_mul, joined_cons, joined_rows, joined_append, length_rows, drop_rows, count_start, count_turn, count_end}
-use Rattle.table.proofs.Laws.{keep_rows_rest}
-use Rattle.table.specs.Before.{NoneBefore, NoneFrom, start, pass}
-use Rattle.table.proofs.Moves.{lent_back, lent_length, slide_stays}
+use Rattle.record.proofs.Rows.{rows_more, rows_end, keep_rows_more, keep_rows_end, row_width, sub_mul, joined_cons, joined_rows, joined_all, joined_append, length_rows, drop_rows, count_turn, count_end}
+use Rattle.record.proofs.Listed.{keep_left, keep_none_left, count_more, count_all}
+use Rattle.table.proofs.Laws.{keep_rows_split}
+use Rattle.table.proofs.Moves.{lent_back, lent_length}
 
 -- a step of a count goes up by one at most
 pub step_le : (z : Bool) (n k : ℕ) → k ≡ cond z (n + 1) n → k ≤ n + 1
@@ -36,16 +30,6 @@ lent_row a e k l o h q =
 after_more : (a k b : ℕ) (l o : List ℕ) → b ≡ a + k → drop a l ≡ drop a o → drop b l ≡ drop b o
 after_more a k b l o h q =
     ap (λ (n : ℕ). drop n l) h ∙ sym (drop-drop k a l) ∙ ap (λ (x : List ℕ). drop k x) q ∙ drop-drop k a o ∙ ap (λ (n : ℕ). drop n o) (sym h)
-
--- `enter_row`
-pub entered_bytes : (l b z x y s : List ℕ) (k : ℕ) → length l ≡ 19 → length b ≡ 14 → z ≡ replicate 19 0 → x ≡ b ++ drop (length b) z → y ≡ put 4 x 15 k
-    → s ≡ y ++ drop (length y) l → s ≡ entered b k
-unfolding entered
-entered_bytes l b z x y s k h g o p q e =
-    let r : y ≡ put 4 (b ++ replicate 5 0) 15 k = q ∙ ap (λ (u : List ℕ). put 4 u 15 k) (p ∙ ap (λ (n : ℕ). b ++ drop n z) g ∙ ap (λ (u : List ℕ). b ++ drop 14 u) o) in
-    let n : length y ≡ 19 = ap length r ∙ length_put 4 (b ++ replicate 5 0) 15 k ∙ length-append b (replicate 5 0) ∙ ap (λ (m : ℕ). m + 5) g in
-    let le : length l ≤ length y = omega arith in
-    e ∙ ap (λ (u : List ℕ). y ++ u) (drop_of_length-le l le) ∙ append-nil y ∙ r
 
 -- `number_rows`
 number_rows_cons : (x k : ℕ) (r : List ℕ) (rs : List (List ℕ))
@@ -85,17 +69,6 @@ pub record Numbering (x next m : ℕ) (o t : List ℕ) (k j : ℕ) : Type 0 wher
   pub count : k + length (keep (owned_by x) (rows 19 (m - j) o j)) ≡ next + length (keep (owned_by x) (rows 19 m o 0))
   pub below : k ≤ next + j
 
-pub number_none : (x next m : ℕ) (o : List ℕ) → Numbering x next m o o next 0
-number_none x next m o =
-    record {
-      within = omega arith;
-      same = refl;
-      after = refl;
-      bytes = ap (λ (l : List (List ℕ)). joined (number_rows x next l) ++ drop (m * 19) o) (rows_start 19 m o);
-      count = count_start (owned_by x) 19 m o next;
-      below = omega arith;
-    }
-
 pub number_more : (x next m : ℕ) (o t : List ℕ) (k j i : ℕ) (y : List ℕ) → Numbering x next m o t k j → m * 19 ≤ length o → j < m
     → length y ≡ length (take (j * 19 + 19 - j * 19) (drop (j * 19) t))
     → y ≡ cond (owned_by x (take (j * 19 + 19 - j * 19) (drop (j * 19) t))) (numbered (take (j * 19 + 19 - j * 19) (drop (j * 19) t)) k) (take (j * 19 + 19 - j * 19) (drop (j * 19) t))
@@ -132,73 +105,43 @@ pub number_all : (x next m : ℕ) (o t : List ℕ) (k j : ℕ) → Numbering x n
 number_all x next m o t k j inv q =
     (number_end x m j k o t _ inv.within q inv.after inv.bytes, count_end (owned_by x) 19 m o j k _ q inv.count)
 
--- a row's record has 14 bytes
-body_length : (t : List ℕ) (j : ℕ) → j * 19 + 19 ≤ length t → length (body_of (row_at 19 t j)) ≡ 14
-body_length t j h =
-    let e : length (row_at 19 t j) ≡ 19 = row_width 19 t j h in
-    length-take-le 14 (row_at 19 t j) (omega arith)
-
--- `log_row`: the copied bytes are the row's record
-pub logged_body : (a f : ℕ) (l t y : List ℕ) → a + 14 ≤ length l → f + 19 ≤ length t
-    → y ≡ take (f + 14 - f) (drop f t) ++ drop (length (take (f + 14 - f) (drop f t))) (take (a + 14 - a) (drop a l))
-    → y ≡ body_of (take 19 (drop f t))
-logged_body a f l t y h g e =
-    let s : List ℕ = take (f + 14 - f) (drop f t) in
-    let p : List ℕ = take (a + 14 - a) (drop a l) in
-    let g₁ : f + 14 ≤ length t = omega arith in
-    let ls : length s ≡ 14 = lent_length f 14 t g₁ in
-    let lp : length p ≡ 14 = lent_length a 14 l h in
-    let le : length p ≤ length s = omega arith in
-    let lit : 14 ≤ 19 = omega arith in
-    e ∙ ap (λ (x : List ℕ). s ++ x) (drop_of_length-le p le) ∙ append-nil s ∙ lent_row f (f + 14) 14 t t refl refl ∙ sym (take-take 14 19 (drop f t) lit)
-
 -- `append_log`: j rows of t are passed, and k is the next row of the log
-pub record Logging (x n m : ℕ) (t o l : List ℕ) (k j : ℕ) : Type 0 where
-  pub within : j ≤ m
+pub record Logging (x n : ℕ) (rs : List (List ℕ)) (o l : List ℕ) (k j : ℕ) : Type 0 where
+  pub within : j ≤ length rs
   pub same : length l ≡ length o
   pub after : drop (k * 14) l ≡ drop (k * 14) o
-  pub bytes : take (k * 14) l ++ (joined (map body_of (keep (owned_by x) (rows 19 (m - j) t j))) ++ drop ((n + length (keep (owned_by x) (rows 19 m t 0))) * 14) o)
-      ≡ take (n * 14) o ++ (joined (map body_of (keep (owned_by x) (rows 19 m t 0))) ++ drop ((n + length (keep (owned_by x) (rows 19 m t 0))) * 14) o)
-  pub count : k + length (keep (owned_by x) (rows 19 (m - j) t j)) ≡ n + length (keep (owned_by x) (rows 19 m t 0))
-
-pub log_none : (x n m : ℕ) (t o : List ℕ) → Logging x n m t o o n 0
-log_none x n m t o =
-    record {
-      within = omega arith;
-      same = refl;
-      after = refl;
-      bytes = ap (λ (q : List (List ℕ)). take (n * 14) o ++ (joined (map body_of (keep (owned_by x) q)) ++ drop ((n + length (keep (owned_by x) (rows 19 m t 0))) * 14) o)) (rows_start 19 m t);
-      count = count_start (owned_by x) 19 m t n;
-    }
+  pub bytes : take (k * 14) l ++ (joined (map body_of (keep (owned_by x) (drop j rs))) ++ drop ((n + length (keep (owned_by x) rs)) * 14) o)
+      ≡ take (n * 14) o ++ (joined (map body_of (keep (owned_by x) rs)) ++ drop ((n + length (keep (owned_by x) rs)) * 14) o)
+  pub count : k + length (keep (owned_by x) (drop j rs)) ≡ n + length (keep (owned_by x) rs)
 
 -- there is room for one row more of the owner's
-pub log_room : (x n m : ℕ) (t o l : List ℕ) (k j : ℕ) → Logging x n m t o l k j → n * 14 + length (keep (owned_by x) (rows 19 m t 0)) * 14 ≤ length o
-    → j < m → owned_by x (row_at 19 t j) ≡ true → k * 14 + 14 ≤ length l
-log_room x n m t o l k j inv room lt own =
-    let r : List (List ℕ) = keep (owned_by x) (rows 19 (m - (j + 1)) t (j + 1)) in
-    let e : length (keep (owned_by x) (rows 19 (m - j) t j)) ≡ suc (length r) =
-    ap (λ (q : List (List ℕ)). length q) (keep_rows_more (owned_by x) 19 m t j lt) ∙ ap (λ (z : Bool). length (cons_if z (row_at 19 t j) r)) own in
+pub log_room : (x n : ℕ) (rs : List (List ℕ)) (o l : List ℕ) (k j : ℕ) → Logging x n rs o l k j → n * 14 + length (keep (owned_by x) rs) * 14 ≤ length o
+    → j < length rs → owned_by x (get_or rs j []) ≡ true → k * 14 + 14 ≤ length l
+log_room x n rs o l k j inv room lt own =
+    let r : List (List ℕ) = keep (owned_by x) (drop (j + 1) rs) in
+    let e : length (keep (owned_by x) (drop j rs)) ≡ suc (length r) =
+    ap (λ (q : List (List ℕ)). length q) (keep_left (owned_by x) rs j lt) ∙ ap (λ (z : Bool). length (cons_if z (get_or rs j []) r)) own in
     omega arith
 
-pub log_more : (x n m : ℕ) (t o l : List ℕ) (k j : ℕ) (s : List ℕ) (i : ℕ) → Logging x n m t o l k j
-    → m * 19 ≤ length t → n * 14 + length (keep (owned_by x) (rows 19 m t 0)) * 14 ≤ length o → j < m
-    → s ≡ cond (owned_by x (row_at 19 t j)) (with_part (k * 14) 14 l (body_of (row_at 19 t j))) l → i ≡ cond (owned_by x (row_at 19 t j)) (k + 1) k
-    → Logging x n m t o s i (j + 1)
-log_more x n m t o l k j s i inv fit room lt = go (owned_by x (row_at 19 t j)) refl
+pub log_more : (x n : ℕ) (rs : List (List ℕ)) (o l : List ℕ) (k j : ℕ) (s : List ℕ) (i : ℕ) → Logging x n rs o l k j
+    → length (get_or rs j []) ≡ 19 → n * 14 + length (keep (owned_by x) rs) * 14 ≤ length o → j < length rs
+    → s ≡ cond (owned_by x (get_or rs j [])) (with_part (k * 14) 14 l (body_of (get_or rs j []))) l → i ≡ cond (owned_by x (get_or rs j [])) (k + 1) k
+    → Logging x n rs o s i (j + 1)
+log_more x n rs o l k j s i inv fit room lt = go (owned_by x (get_or rs j [])) refl
   where
     r : List (List ℕ)
-    r = keep (owned_by x) (rows 19 (m - (j + 1)) t (j + 1))
+    r = keep (owned_by x) (drop (j + 1) rs)
 
     y : List ℕ
-    y = body_of (row_at 19 t j)
+    y = body_of (get_or rs j [])
 
     z : List ℕ
-    z = drop ((n + length (keep (owned_by x) (rows 19 m t 0))) * 14) o
+    z = drop ((n + length (keep (owned_by x) rs)) * 14) o
 
-    go : (w : Bool) → owned_by x (row_at 19 t j) ≡ w → s ≡ cond w (with_part (k * 14) 14 l y) l → i ≡ cond w (k + 1) k → Logging x n m t o s i (j + 1)
+    go : (w : Bool) → owned_by x (get_or rs j []) ≡ w → s ≡ cond w (with_part (k * 14) 14 l y) l → i ≡ cond w (k + 1) k → Logging x n rs o s i (j + 1)
     go true own se ie =
-        let h : k * 14 + 14 ≤ length l = log_room x n m t o l k j inv room lt own in
-        let ly : length y ≡ 14 = body_length t j (omega arith) in
+        let h : k * 14 + 14 ≤ length l = log_room x n rs o l k j inv room lt own in
+        let ly : length y ≡ 14 = length-take-le 14 (get_or rs j []) (omega arith) in
         let e : i * 14 ≡ k * 14 + 14 = omega arith in
         record {
           within = omega arith;
@@ -209,9 +152,9 @@ log_more x n m t o l k j s i inv fit room lt = go (owned_by x (row_at 19 t j)) r
               ∙ append_assoc (take (k * 14) l) y (joined (map body_of r) ++ z)
               ∙ ap (λ (q : List ℕ). take (k * 14) l ++ q) (sym (append_assoc y (joined (map body_of r)) z))
               ∙ ap (λ (q : List ℕ). take (k * 14) l ++ (q ++ z)) (sym (joined_cons y (map body_of r)))
-              ∙ ap (λ (q : List (List ℕ)). take (k * 14) l ++ (joined (map body_of q) ++ z)) (sym (keep_rows_more (owned_by x) 19 m t j lt ∙ ap (λ (w : Bool). cons_if w (row_at 19 t j) r) own))
+              ∙ ap (λ (q : List (List ℕ)). take (k * 14) l ++ (joined (map body_of q) ++ z)) (sym (keep_left (owned_by x) rs j lt ∙ ap (λ (w : Bool). cons_if w (get_or rs j []) r) own))
               ∙ inv.bytes;
-          count = count_turn (owned_by x) 19 m t j k i _ lt (ie ∙ ap (λ (w : Bool). cond w (k + 1) k) (sym own)) inv.count;
+          count = count_more (owned_by x) rs j k i _ lt (ie ∙ ap (λ (w : Bool). cond w (k + 1) k) (sym own)) inv.count;
         }
     go false own se ie =
         record {
@@ -221,31 +164,22 @@ log_more x n m t o l k j s i inv fit room lt = go (owned_by x (row_at 19 t j)) r
           bytes =
               ap (λ (q : List ℕ). take (i * 14) q ++ (joined (map body_of r) ++ z)) se
               ∙ ap (λ (q : ℕ). take (q * 14) l ++ (joined (map body_of r) ++ z)) ie
-              ∙ ap (λ (q : List (List ℕ)). take (k * 14) l ++ (joined (map body_of q) ++ z)) (sym (keep_rows_more (owned_by x) 19 m t j lt ∙ ap (λ (w : Bool). cons_if w (row_at 19 t j) r) own))
+              ∙ ap (λ (q : List (List ℕ)). take (k * 14) l ++ (joined (map body_of q) ++ z)) (sym (keep_left (owned_by x) rs j lt ∙ ap (λ (w : Bool). cons_if w (get_or rs j []) r) own))
               ∙ inv.bytes;
-          count = count_turn (owned_by x) 19 m t j k i _ lt (ie ∙ ap (λ (w : Bool). cond w (k + 1) k) (sym own)) inv.count;
+          count = count_more (owned_by x) rs j k i _ lt (ie ∙ ap (λ (w : Bool). cond w (k + 1) k) (sym own)) inv.count;
         }
 
-pub log_all : (x n m : ℕ) (t o l : List ℕ) (k j : ℕ) → Logging x n m t o l k j → m ≤ j
-    → (l ≡ take (n * 14) o ++ (joined (map body_of (keep (owned_by x) (rows 19 m t 0))) ++ drop ((n + length (keep (owned_by x) (rows 19 m t 0))) * 14) o))
-    × (k ≡ n + length (keep (owned_by x) (rows 19 m t 0)))
+pub log_all : (x n : ℕ) (rs : List (List ℕ)) (o l : List ℕ) (k j : ℕ) → Logging x n rs o l k j → length rs ≤ j
+    → (l ≡ take (n * 14) o ++ (joined (map body_of (keep (owned_by x) rs)) ++ drop ((n + length (keep (owned_by x) rs)) * 14) o))
+    × (k ≡ n + length (keep (owned_by x) rs))
 unfolding joined
-log_all x n m t o l k j inv q =
-    let e : k ≡ n + length (keep (owned_by x) (rows 19 m t 0)) = count_end (owned_by x) 19 m t j k _ q inv.count in (
+log_all x n rs o l k j inv q =
+    let e : k ≡ n + length (keep (owned_by x) rs) = count_all (owned_by x) rs j k _ q inv.count in (
       sym (take-append-drop (k * 14) l) ∙ ap (λ (y : List ℕ). take (k * 14) l ++ y) (inv.after ∙ ap (λ (i : ℕ). drop (i * 14) o) e)
-          ∙ ap (λ (y : List (List ℕ)). take (k * 14) l ++ (joined (map body_of y) ++ drop ((n + length (keep (owned_by x) (rows 19 m t 0))) * 14) o)) (sym (keep_rows_end (owned_by x) 19 m t j q))
+          ∙ ap (λ (y : List (List ℕ)). take (k * 14) l ++ (joined (map body_of y) ++ drop ((n + length (keep (owned_by x) rs)) * 14) o)) (sym (keep_none_left (owned_by x) rs j q))
           ∙ inv.bytes,
       e,
     )
-
--- `is_gone`: a row of another page stays, one of the page goes by its owner
-pub gone_other : (w : Bool) (x p q : ℕ) (r : List ℕ) → w ≡ false → q ≡ page_of r → (q ≡ p → ⊥) → false ≡ gone w x p r
-gone_other w x p q r we qe ne =
-    ap (λ (z : Bool). z && eqb (owner_of r) x) (sym (ne_eqb (page_of r) p (λ e. ne (qe ∙ e)))) ∙ ap (λ (z : Bool). gone z x p r) (sym we)
-
-pub gone_page : (w : Bool) (x p q a : ℕ) (r : List ℕ) → w ≡ false → q ≡ page_of r → q ≡ p → a ≡ owner_of r → eqb a x ≡ gone w x p r
-gone_page w x p q a r we qe e ae =
-    ap (λ (z : ℕ). eqb z x) ae ∙ ap (λ (z : Bool). z && eqb (owner_of r) x) (sym (eq-eqb (page_of r) p (sym qe ∙ e))) ∙ ap (λ (z : Bool). gone z x p r) (sym we)
 
 -- `squeeze`: j rows are passed, of which k stay
 pub record Squeezing (b : List ℕ → Bool) (m : ℕ) (o t : List ℕ) (k j : ℕ) : Type 0 where
@@ -255,17 +189,6 @@ pub record Squeezing (b : List ℕ → Bool) (m : ℕ) (o t : List ℕ) (k j : �
   pub after : drop (j * 19) t ≡ drop (j * 19) o
   pub bytes : take (k * 19) t ++ joined (keep b (rows 19 (m - j) o j)) ≡ joined (keep b (rows 19 m o 0))
   pub count : k + length (keep b (rows 19 (m - j) o j)) ≡ length (keep b (rows 19 m o 0))
-
-squeeze_none : (b : List ℕ → Bool) (m : ℕ) (o : List ℕ) → Squeezing b m o o 0 0
-squeeze_none b m o =
-    record {
-      within = omega arith;
-      less = omega arith;
-      same = refl;
-      after = refl;
-      bytes = ap (λ (q : List (List ℕ)). joined (keep b q)) (rows_start 19 m o);
-      count = count_start b 19 m o 0 ∙ zero-add (length (keep b (rows 19 m o 0)));
-    }
 
 pub squeeze_more : (b : List ℕ → Bool) (m : ℕ) (o t : List ℕ) (k j : ℕ) (s : List ℕ) (i : ℕ) → Squeezing b m o t k j → m * 19 ≤ length o → j < m
     → s ≡ cond (b (row_at 19 t j)) (with_part (k * 19) 19 t (row_at 19 t j)) t → i ≡ cond (b (row_at 19 t j)) (k + 1) k
@@ -322,14 +245,22 @@ squeeze_more b m o t k j s i inv fit lt se₀ ie₀ =
           count = count_turn b 19 m o j k i _ lt (ie ∙ ap (λ (w : Bool). cond w (k + 1) k) (sym b_is)) inv.count;
         }
 
--- rows that all stay are passed, and the table is as it was
-pub squeeze_start : (b : List ℕ → Bool) (m : ℕ) (o : List ℕ) {a : ℕ} → NoneBefore b o a → m * 19 ≤ length o → a ≤ m → Squeezing (λ (x : List ℕ). not (b x)) m o o a a
-squeeze_start b m o start fit le = squeeze_none (λ (x : List ℕ). not (b x)) m o
-squeeze_start b m o (pass {m = a} h e) fit le =
-    let s : o ≡ cond (not (b (row_at 19 o a))) (with_part (a * 19) 19 o (row_at 19 o a)) o = rw e (slide_stays o (a * 19) (a * 19) 19 refl) in
-    let i : a + 1 ≡ cond (not (b (row_at 19 o a))) (a + 1) a = rw e in
-    subst (λ (k : ℕ). Squeezing (λ (x : List ℕ). not (b x)) m o o k k) (add-one a)
-    (squeeze_more (λ (x : List ℕ). not (b x)) m o o a a o (a + 1) (squeeze_start b m o h fit (omega arith)) fit (omega arith) s i)
+-- the first rows all stay, and the table is as it was
+pub squeeze_start : (b : List ℕ → Bool) (m : ℕ) (o : List ℕ) (a : ℕ) → keep b (rows 19 a o 0) ≡ rows 19 a o 0 → a ≤ m → Squeezing b m o o a a
+squeeze_start b m o a e h =
+    let all : keep b (rows 19 m o 0) ≡ rows 19 a o 0 ++ keep b (rows 19 (m - a) o a) = keep_rows_split b m o a h ∙ ap (λ (q : List (List ℕ)). q ++ keep b (rows 19 (m - a) o a)) e in
+    record {
+      within = h;
+      less = omega arith;
+      same = refl;
+      after = refl;
+      bytes =
+          ap (λ (q : List ℕ). q ++ joined (keep b (rows 19 (m - a) o a))) (sym (joined_all 19 a o))
+          ∙ sym (ap (λ (q : List (List ℕ)). joined q) all ∙ joined_append (rows 19 a o 0) (keep b (rows 19 (m - a) o a)));
+      count =
+          ap (λ (q : ℕ). q + length (keep b (rows 19 (m - a) o a))) (sym (length_rows 19 a o 0))
+          ∙ sym (ap (λ (q : List (List ℕ)). length q) all ∙ length-append (rows 19 a o 0) (keep b (rows 19 (m - a) o a)));
+    }
 
 pub squeeze_all : (b : List ℕ → Bool) (m : ℕ) (o t : List ℕ) (k j : ℕ) → Squeezing b m o t k j → m ≤ j
     → (take (k * 19) t ≡ joined (keep b (rows 19 m o 0))) × (k ≡ length (keep b (rows 19 m o 0))) × (k ≤ m) × (drop (m * 19) t ≡ drop (m * 19) o)
@@ -350,18 +281,19 @@ moved_up to m k l t h p q e =
     ∙ ap (λ (x : List ℕ). take (k * 19) l ++ x) (sym (joined_rows 19 (m - to) l to))
 
 -- `delete`: the rows before row a that stay, and behind them all those from it on, are the rows that stay
-pub closed_up : (b : List ℕ → Bool) (a m : ℕ) (o t s : List ℕ) (k n : ℕ) → NoneFrom b o a m
-    → take (k * 19) t ≡ joined (keep (λ (x : List ℕ). not (b x)) (rows 19 a o 0)) → k ≡ length (keep (λ (x : List ℕ). not (b x)) (rows 19 a o 0)) → drop (a * 19) t ≡ drop (a * 19) o
+pub closed_up : (b : List ℕ → Bool) (a m : ℕ) (o t s : List ℕ) (k n : ℕ) → keep b (rows 19 (m - a) o a) ≡ rows 19 (m - a) o a → a ≤ m
+    → take (k * 19) t ≡ joined (keep b (rows 19 a o 0)) → k ≡ length (keep b (rows 19 a o 0)) → drop (a * 19) t ≡ drop (a * 19) o
     → take (n * 19) s ≡ take (k * 19) t ++ joined (rows 19 (m - a) t a) → n ≡ k + (m - a)
-    → (take (n * 19) s ≡ joined (keep (λ (x : List ℕ). not (b x)) (rows 19 m o 0))) × (n ≡ length (keep (λ (x : List ℕ). not (b x)) (rows 19 m o 0)))
-closed_up b a m o t s k n h te ke de se ne =
-    let l : List (List ℕ) = keep (λ (x : List ℕ). not (b x)) (rows 19 a o 0) in
+    → (take (n * 19) s ≡ joined (keep b (rows 19 m o 0))) × (n ≡ length (keep b (rows 19 m o 0)))
+closed_up b a m o t s k n h le te ke de se ne =
+    let l : List (List ℕ) = keep b (rows 19 a o 0) in
     let r : List (List ℕ) = rows 19 (m - a) o a in
+    let all : keep b (rows 19 m o 0) ≡ l ++ r = keep_rows_split b m o a le ∙ ap (λ (q : List (List ℕ)). l ++ q) h in
     let re : joined (rows 19 (m - a) t a) ≡ joined r = joined_rows 19 (m - a) t a ∙ ap (λ (q : List ℕ). take ((m - a) * 19) q) de ∙ sym (joined_rows 19 (m - a) o a) in (
       se ∙ ap (λ (q : List ℕ). q ++ joined (rows 19 (m - a) t a)) te ∙ ap (λ (q : List ℕ). joined l ++ q) re
-          ∙ sym (ap (λ (q : List (List ℕ)). joined q) (keep_rows_rest b o h) ∙ joined_append l r),
+          ∙ sym (ap (λ (q : List (List ℕ)). joined q) all ∙ joined_append l r),
       ne ∙ ap (λ (q : ℕ). q + (m - a)) ke ∙ ap (λ (q : ℕ). length l + q) (sym (length_rows 19 (m - a) o a))
-          ∙ sym (ap (λ (q : List (List ℕ)). length q) (keep_rows_rest b o h) ∙ length-append l r),
+          ∙ sym (ap (λ (q : List (List ℕ)). length q) all ∙ length-append l r),
     )
 
 -- rows at the front, and zeros from there on

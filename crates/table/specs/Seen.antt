@@ -1,22 +1,22 @@
 -- What a survey of a page's rows says.
 use Rattle.std.specs.Prelude.{ℕ, ◌+◌, ◌≤◌, min, ◌≡◌, cond, List, [], ◌∷◌, length}
-use Rattle.record.specs.Rows.{rows, keep}
-use Rattle.record.specs.Record.{online_width, on_page, committed_on, smallest, greatest}
+use Rattle.record.specs.Rows.{keep}
+use Rattle.record.specs.Record.{on_page, committed_on, smallest, greatest}
 use Rattle.table.specs.Before.{NoneBefore, NoneFrom}
 use Rattle.table.specs.declared.page.Survey.{Survey}
 
--- r is the survey of the first m rows of t
-pub record Surveyed (p m : ℕ) (t : List ℕ) (r : Survey) : Type 0 where
-  pub all : r.all ≡ length (keep (on_page p) (rows online_width m t 0))
-  pub committed : r.committed ≡ length (keep (committed_on p) (rows online_width m t 0))
-  pub least : r.least ≡ smallest 0 (keep (committed_on p) (rows online_width m t 0))
-  pub most : r.most ≡ greatest 0 (keep (committed_on p) (rows online_width m t 0))
+-- r is the survey of the rows
+pub record Surveyed (p : ℕ) (rs : List (List ℕ)) (r : Survey) : Type 0 where
+  pub all : r.all ≡ length (keep (on_page p) rs)
+  pub committed : r.committed ≡ length (keep (committed_on p) rs)
+  pub least : r.least ≡ smallest 0 (keep (committed_on p) rs)
+  pub most : r.most ≡ greatest 0 (keep (committed_on p) rs)
   pub fewer : r.committed ≤ r.all
-  pub below : r.all ≤ m
-  pub from : NoneBefore (committed_on p) t r.from
-  pub to : NoneFrom (committed_on p) t r.to m
+  pub below : r.all ≤ length rs
+  pub from : NoneBefore (committed_on p) rs r.from
+  pub to : NoneFrom (committed_on p) rs r.to (length rs)
   pub ordered : r.from ≤ r.to
-  pub within : r.to ≤ m
+  pub within : r.to ≤ length rs
 
 -- r is s with the row x, at the place i, besides
 pub record Seen (s : Survey) (p i : ℕ) (x : List ℕ) (r : Survey) : Type 0 where

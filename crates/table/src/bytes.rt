@@ -1,5 +1,5 @@
 // Bytes written, copied and moved within a slice.
-ghost use Rattle.std.specs.Prelude.{◌≡◌, ◌++◌, ◌+◌, ◌-◌, ◌≤◌, length, take, drop, replicate};
+ghost use Rattle.std.specs.Prelude.{◌≡◌, ◌++◌, ◌+◌, ◌-◌, ◌≤◌, length, take, replicate};
 ghost use Rattle.record.specs.Part.{part, with_part};
 ghost use Rattle.record.specs.Record.{online_width};
 
@@ -11,40 +11,27 @@ pub fn clear(s: &mut [u8], from: usize)
     fill::wipe(&mut s[from..]);
 }
 
-// The bytes of s at the front of d.
-pub fn copy(d: &mut [u8], s: &[u8])
-    requires { length s.now ≤ length d.old }
-    ensures { d.new ≡ s.now ++ drop (length s.now) d.old }
-{
-    let mut i = 0;
-    while i < s.len() {
-        d[i] = s[i];
-        i += 1;
-    }
-}
-
 // The n bytes at a place moved down to another, one by one; the two may overlap.
+#[tactic(auto, using(crate::proofs::Moves::slide_turn))]
 fn slide_bytes(s: &mut [u8], from: usize, to: usize, n: usize)
     requires { (to ≤ from) × (from + n ≤ length s.old) }
     ensures { s.new ≡ with_part to n s.old (part from n s.old) }
 {
-    let mut i = 0;
-    while i < n {
+    for i in 0..n {
         s[to + i] = s[from + i];
-        i += 1;
     }
 }
 
-// 64 bytes moved down. A copy stands between, so that they can move as words.
-fn slide_block(s: &mut [u8], from: usize, to: usize)
-    requires { (to ≤ from) × (from + 64 ≤ length s.old) }
-    ensures { s.new ≡ with_part to 64 s.old (part from 64 s.old) }
+// N bytes moved down. A copy stands between, so that they can move as words.
+fn slide_block<const N: usize>(s: &mut [u8], from: usize, to: usize)
+    requires { (to ≤ from) × (from + N ≤ length s.old) }
+    ensures { s.new ≡ with_part to N s.old (part from N s.old) }
 {
-    let mut block = [0u8; 64];
-    let f = from + 64;
-    copy(&mut block, &s[from..f]);
-    let e = to + 64;
-    copy(&mut s[to..e], &block);
+    let mut block = [0u8; N];
+    let f = from + N;
+    fill::copy(&mut block, &s[from..f]);
+    let e = to + N;
+    fill::copy(&mut s[to..e], &block);
 }
 
 // The n bytes at a place moved down to another; the two may overlap. Where they are the same, nothing is written.
@@ -57,7 +44,7 @@ pub fn slide(s: &mut [u8], from: usize, to: usize, n: usize)
     }
     let mut i = 0;
     while 64 <= n - i {
-        slide_block(s, from + i, to + i);
+        slide_block::<64>(s, from + i, to + i);
         i += 64;
     }
     slide_bytes(s, from + i, to + i, n - i);
@@ -71,9 +58,5 @@ pub fn slide_row(s: &mut [u8], from: usize, to: usize)
     if to == from {
         return;
     }
-    let mut row = [0u8; record::ONLINE_WIDTH];
-    let f = from + record::ONLINE_WIDTH;
-    copy(&mut row, &s[from..f]);
-    let e = to + record::ONLINE_WIDTH;
-    copy(&mut s[to..e], &row);
+    slide_block::<{ record::ONLINE_WIDTH }>(s, from, to);
 }

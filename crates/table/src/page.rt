@@ -1,10 +1,12 @@
 // A page's rows, looked at one by one.
-ghost use Rattle.std.specs.Prelude.{◌≡◌, ◌+◌, ◌*◌, ◌≤◌, min, max, length};
+ghost use Rattle.std.specs.Prelude.{◌^◌, ◌-◌, ◌≤◌, ◌<◌};
 ghost use Rattle.record.specs.Rows.{row_at};
-ghost use Rattle.record.specs.Record.{online_width, lesser};
+ghost use Rattle.record.specs.Record.{online_width};
 ghost use Rattle.table.specs.Seen.{Seen};
 
 use number::PageNo;
+use record::row;
+use record::row::OnlineRow;
 
 // What the rows of a page come to: how many, how many of them committed, the smallest and the greatest number of those (0: none),
 // and the rows from which on and up to which those stand (with none: the end).
@@ -18,64 +20,27 @@ pub struct Survey {
     pub to: usize,
 }
 
-// The smaller of two numbers, where 0 is none.
-fn lesser_of(a: u64, b: u64) -> u64
-    ensures { result ≡ lesser a b }
+// The survey with a row besides, which is row i.
+pub fn look(s: Survey, i: usize, row: &OnlineRow, p: PageNo) -> Survey
+    requires { (s.all ≤ i) × (s.committed ≤ i) × (i < 2 ^ 64 - 1) }
+    ensures { Seen s p.0 i row.now result }
 {
-    if a == 0 {
-        return b;
-    }
-    if a <= b {
-        return a;
-    }
-    b
-}
-
-fn greater_of(a: u64, b: u64) -> u64
-    ensures { result ≡ max a b }
-{
-    if a <= b {
-        return b;
-    }
-    a
-}
-
-fn earlier_of(a: usize, b: usize) -> usize
-    ensures { result ≡ min a b }
-{
-    if a <= b {
-        return a;
-    }
-    b
-}
-
-// The survey with row i besides.
-pub fn look(s: Survey, t: &[u8], i: usize, p: PageNo) -> Survey
-    requires { (i * online_width + online_width ≤ length t.now) × (s.all ≤ i) × (s.committed ≤ i) }
-    ensures { Seen s p.0 i (row_at online_width t.now i) result }
-{
-    let q = record::page_of(t, record::ONLINE_WIDTH, i);
-    if q.0 != p.0 {
+    if row::page_of(row) != p {
         return s;
     }
-    let o = record::owner_of(t, i);
-    if o != 0 {
+    if row::owner_of(row) != 0 {
         return Survey {
             all: s.all + 1,
-            committed: s.committed,
-            least: s.least,
-            most: s.most,
-            from: s.from,
-            to: s.to,
+            ..s
         };
     }
-    let k = record::number_of(t, i);
+    let k = row::number_of(row);
     Survey {
         all: s.all + 1,
         committed: s.committed + 1,
-        least: lesser_of(s.least, k.0),
-        most: greater_of(s.most, k.0),
-        from: earlier_of(s.from, i),
+        least: record::lesser_of(s.least, k.0),
+        most: s.most.max(k.0),
+        from: s.from.min(i),
         to: i + 1,
     }
 }

@@ -1,4 +1,5 @@
 -- An ordinary firmware meets every premise: whatever calls and losses its day brings, history and bytes are a run, and no restart is awaited.
+use Rattle.std.specs.Prelude.{Ok, Err}
 use Prim.Native.Nat.{ℕ, zero, suc, ◌+◌}
 use mathlib.Core.Path.{◌≡◌, refl, sym, ap, ◌∙◌, subst}
 use mathlib.Core.Bool.{Bool, true, false, cond}
@@ -12,8 +13,7 @@ use Rattle.rules.specs.declared.Answer.{Answer}
 use Rattle.rules.specs.declared.Answer.TheVariants.{Done, Refused}
 use Rattle.rules.specs.declared.Counts.{Counts}
 use Rattle.rules.specs.declared.Refusal.{Refusal}
-use Rattle.rules.specs.declared.Verdict.{Verdict}
-use Rattle.rules.specs.declared.Verdict.TheVariants.{Go, Refuse}
+use Rattle.rules.specs.Calls.{Verdict}
 use Rattle.rules.specs.Lent.{Lent, Lost, pages_of}
 use Rattle.rules.specs.Steps.{formatted}
 use Rattle.rules.specs.Calls.{Outcome, settled, done_with, read_call, judge_format, format_call, judge_checkpoint}
@@ -58,13 +58,13 @@ inside_runs : {h : Past} {s : Lent} → Run h s → h.down ≡ false → (min_de
 unfolding bytes_inside
 inside_runs {h} {s} r u min_del max_age j l f = go (judge_checkpoint s min_del max_age) refl
   where
-    steps : judge_checkpoint s min_del max_age ≡ Go → (b : Bool) → leb j (pages_of s + 1) ≡ b → Run (falls h) (after_loss (cond b (after_steps min_del max_age j s) s) l)
+    steps : judge_checkpoint s min_del max_age ≡ Ok tt → (b : Bool) → leb j (pages_of s + 1) ≡ b → Run (falls h) (after_loss (cond b (after_steps min_del max_age j s) s) l)
     steps e true k = loss_inside r u min_del max_age j e (leb-true j (pages_of s + 1) k) l f
     steps e false k = loss r l f
 
     go : (v : Verdict) → judge_checkpoint s min_del max_age ≡ v → Run (falls h) (after_loss (bytes_inside v min_del max_age j s) l)
-    go Go e = steps e (leb j (pages_of s + 1)) refl
-    go (Refuse why) e = loss r l f
+    go (Ok tt) e = steps e (leb j (pages_of s + 1)) refl
+    go (Err why) e = loss r l f
 
 -- a format, accepted or refused: of a store that is up, or first when the power is back
 module _ (d : Store) (g : Params) (last : ℕ) where
@@ -80,10 +80,10 @@ module _ (d : Store) (g : Params) (last : ℕ) where
       o v = settled v d.lent [] (done_with (formatted d.lent g last) [])
 
       go : (v : Verdict) → judge_format d.lent g last ≡ v → P (format_call d.lent g last).answer (by (format_call d.lent g last).answer)
-      go Go e =
+      go (Ok tt) e =
           let f : (format_call d.lent g last).answer ≡ Done (record { reads = 0; writes = 0; logs = 0 }) = ap (λ (v : Verdict). (o v).answer) e in
           subst (λ (a : Answer). P a (by a)) (sym f) (accepted f)
-      go (Refuse why) e =
+      go (Err why) e =
           let f : (format_call d.lent g last).answer ≡ Refused why = ap (λ (v : Verdict). (o v).answer) e in
           subst (λ (a : Answer). P a (by a)) (sym f) (declined why f)
 

@@ -1,5 +1,6 @@
 -- From the doors to the runs: what C is told and left by a call is a step of a run, and the history goes by the code that C sees.
 -- A restart at any time, a format, and two stores at their doors too.
+use Rattle.std.specs.Prelude.{Ok, Err}
 use Prim.Native.Nat.{ℕ}
 use mathlib.Core.Path.{◌≡◌, refl, sym, ap, ◌∙◌, subst}
 use mathlib.Core.Bool.{Bool, true, false}
@@ -13,8 +14,7 @@ use Rattle.rules.specs.declared.Answer.TheVariants.{Done, NotDue, Refused}
 use Rattle.rules.specs.declared.Refusal.{Refusal}
 use Rattle.rules.specs.declared.Refusal.TheVariants.{NotSound, Argument, ShortBuffer, NotLive, Live, Held, OnlineFull, LogFull, NumbersEnd, NoFrame}
 use Rattle.rules.specs.declared.Reply.{Reply}
-use Rattle.rules.specs.declared.Verdict.{Verdict}
-use Rattle.rules.specs.declared.Verdict.TheVariants.{Go, Refuse}
+use Rattle.rules.specs.Calls.{Verdict}
 use Rattle.rules.specs.Answers.{code_of, reply_of}
 use Rattle.rules.specs.Lent.{Lent}
 use Rattle.rules.specs.Steps.{Left, begun, read_step, read_bytes, updated, committing, aborted, evicted, due, compacted, closed, checkpointed, restarted, formatted}
@@ -44,8 +44,8 @@ refused_heard h k NoFrame = refl
 -- a call that is done or refused
 by_answer : (h : Past) (c : Call) (v : Verdict) (s : Lent) (buffer after : List ℕ) (d : Left) → told h c (settled v s buffer (done_with d after)).answer ≡ heard h c (reply_of (settled v s buffer (done_with d after)).answer)
 unfolding told heard_as
-by_answer h c Go s buffer after d = refl
-by_answer h c (Refuse r) s buffer after d = refused_heard h (taken h c) r
+by_answer h c (Ok tt) s buffer after d = refl
+by_answer h c (Err r) s buffer after d = refused_heard h (taken h c) r
 
 pub told_heard : (h : Past) (s : Lent) (c : Call) → told h c (outcome s c).answer ≡ heard h c (reply_of (outcome s c).answer)
 unfolding outcome begin_call read_call update_call commit_call abort_call evict_call compact_call close_call checkpoint_call restart_call told heard_as taken
@@ -58,9 +58,9 @@ told_heard h s (Update x p offset w kind v) = by_answer h (Update x p offset w k
 told_heard h s (Compact p min_del max_age) = pick (judge_compact s p min_del max_age) (due s p min_del max_age)
   where
     pick : (v : Verdict) (b : Bool) → told h (Compact p min_del max_age) (settled v s [] (due_or b s (done_with (compacted s p) []))).answer ≡ heard h (Compact p min_del max_age) (reply_of (settled v s [] (due_or b s (done_with (compacted s p) []))).answer)
-    pick Go true = refl
-    pick Go false = refl
-    pick (Refuse r) b = refused_heard h h r
+    pick (Ok tt) true = refl
+    pick (Ok tt) false = refl
+    pick (Err r) b = refused_heard h h r
 told_heard h s (Checkpoint min_del max_age) = by_answer h (Checkpoint min_del max_age) (judge_checkpoint s min_del max_age) s [] [] (checkpointed min_del max_age s)
 told_heard h s Close = by_answer h Close (judge_close s) s [] [] (closed s)
 told_heard h s Restart = by_answer h Restart (judge_restart s) s [] [] (restarted s)
@@ -96,8 +96,8 @@ unfolding format_call formatted
 done_format s g last r e z = go (judge_format s g last) (sym (ap (λ (y : Reply). y.code) e) ∙ z)
   where
     go : (v : Verdict) → (reply_of (settled v s [] (done_with (formatted s g last) [])).answer).code ≡ 0 → (settled v s [] (done_with (formatted s g last) [])).answer ≡ Done (record { reads = 0; writes = 0; logs = 0 })
-    go Go k = refl
-    go (Refuse why) k = absurd (mathlib.Core.Bool.false≢true (code_refused why k))
+    go (Ok tt) k = refl
+    go (Err why) k = absurd (mathlib.Core.Bool.false≢true (code_refused why k))
 
 -- the first format at its door: of any bytes at all
 pub first_door : (s : Lent) (g : Params) (last : ℕ) (r : Reply) (t : Lent) → Told (format_call s g last) r t → r.code ≡ 0 → Run (fresh g last s.durable.stored) t
@@ -128,8 +128,8 @@ read_at_door {h} {s} u n buffer after x p offset w r t k b e = b ∙ pick (judge
     left = done_with (read_step s p) (read_bytes s p offset w buffer)
 
     pick : (v : Verdict) → judge_read s (length buffer) x p offset w ≡ v → (reply_of (settled v s buffer left).answer).code ≡ 0 → (settled (judge_read s (length buffer) x p offset w) s buffer left).buffer ≡ part offset w (shown h x p) ++ drop w buffer
-    pick Go f z = read_shows u n buffer x p offset w (record { reads = (read_step s p).reads; writes = (read_step s p).writes; logs = (read_step s p).logs }) (ap (λ (v : Verdict). (settled v s buffer left).answer) f)
-    pick (Refuse why) f z = absurd (mathlib.Core.Bool.false≢true (code_refused why z))
+    pick (Ok tt) f z = read_shows u n buffer x p offset w (record { reads = (read_step s p).reads; writes = (read_step s p).writes; logs = (read_step s p).logs }) (ap (λ (v : Verdict). (settled v s buffer left).answer) f)
+    pick (Err why) f z = absurd (mathlib.Core.Bool.false≢true (code_refused why z))
 
 -- 7 and 8 as the code tells them
 full_said : (a : Answer) → full a ≡ says_full (reply_of a)

@@ -1,6 +1,7 @@
 -- The incident, for a support desk: what one owner of a number committed is not changed by any later begin, cancel or commit under the same number.
 -- `reissued` says so of one call, `committed_stands` of any calls, losses and restarts together.
 -- `claim_reads` is the torch's story: after the commit its number is given out again for a claim, the claim is cancelled, and everybody's reads are as before.
+use Rattle.std.specs.Prelude.{Ok, Err}
 use Prim.Native.Nat.{ℕ, ◌+◌, ◌≤◌}
 use native.Mathlib.Omega.{arith}
 use mathlib.Core.Path.{◌≡◌, refl, sym, ap, ◌∙◌, subst}
@@ -16,8 +17,7 @@ use Rattle.record.proofs.Rows.{length_row_of}
 use Rattle.rules.specs.declared.Answer.{Answer}
 use Rattle.rules.specs.declared.Answer.TheVariants.{Done, NotDue, Refused}
 use Rattle.rules.specs.declared.Counts.{Counts}
-use Rattle.rules.specs.declared.Verdict.{Verdict}
-use Rattle.rules.specs.declared.Verdict.TheVariants.{Go, Refuse}
+use Rattle.rules.specs.Calls.{Verdict}
 use Rattle.rules.specs.Lent.{Lent, page_in}
 use Rattle.rules.specs.Steps.{begun, updated, committing, aborted, restarted}
 use Rattle.rules.specs.Calls.{Outcome, settled, done_with, judge_begin, begin_call, read_call, judge_update, update_call, judge_commit, commit_call, judge_abort, abort_call, judge_restart, restart_call}
@@ -47,7 +47,7 @@ later_restarted {h} t l = by_verdict (Reached h) {s = t} l Restart [] (done_with
 
 -- a call is at most one step of the history
 module _ {h k : Past} {t : Lent} (l : Later h k) (q : Rightly k t) where
-  commit_room : (x : ℕ) → 1 ≤ x → judge_commit t x ≡ Go → k.last + length (keep (owned_by x) k.made) ≤ 4294967295
+  commit_room : (x : ℕ) → 1 ≤ x → judge_commit t x ≡ Ok tt → k.last + length (keep (owned_by x) k.made) ≤ 4294967295
   commit_room x m e =
       omega (arith, (commit_went t x e).3, last_read q.ground q.done k t q.right, ap (λ (z : List (List ℕ)). length z) (owned_read q.ground q.done k t q.right x m))
 
@@ -65,7 +65,7 @@ module _ {h k : Past} {t : Lent} (l : Later h k) (q : Rightly k t) where
       row : List ℕ
       row = row_of p offset w kind v x
 
-      go : judge_update t x p offset w kind v ≡ Go → Later h (updates k row)
+      go : judge_update t x p offset w kind v ≡ Ok tt → Later h (updates k row)
       go e =
           let m = within x (update_went t x p offset w kind v e).5 in
           update l row (length_row_of p offset w kind v x) (rw (row_owner p offset w kind v x) (ne_eqb x 0 (λ z. omega (arith, m.0))))
@@ -105,9 +105,9 @@ pub reissued : {h : Past} {s : Lent} → Run h s → h.down ≡ false → (c : C
 reissued r n c = committed_stands r (then_call here n c)
 
 -- what is answered done was not refused
-went_done : (v : Verdict) (s : Lent) (buffer : List ℕ) (o : Outcome) (n : Counts) → (settled v s buffer o).answer ≡ Done n → v ≡ Go
-went_done Go s buffer o n e = refl
-went_done (Refuse r) s buffer o n e = let z : ◌≡◌ {A = Bool} false true = cc in absurd (false≢true z)
+went_done : (v : Verdict) (s : Lent) (buffer : List ℕ) (o : Outcome) (n : Counts) → (settled v s buffer o).answer ≡ Done n → v ≡ Ok tt
+went_done (Ok tt) s buffer o n e = refl
+went_done (Err r) s buffer o n e = let z : ◌≡◌ {A = Bool} false true = cc in absurd (false≢true z)
 
 -- an abort under another number, accepted or refused, changes nothing that a reader is shown
 pub cancel_shows : (h : Past) (s : Lent) (x y p : ℕ) → (y ≡ x → ⊥) → shown (told h (Abort x) (outcome s (Abort x)).answer) y p ≡ shown h y p
@@ -115,12 +115,12 @@ unfolding outcome abort_call told taken
 cancel_shows h s x y p d = go (judge_abort s x) refl
   where
     go : (v : Verdict) → judge_abort s x ≡ v → shown (told h (Abort x) (settled v s [] (done_with (aborted s x) [])).answer) y p ≡ shown h y p
-    go Go e = abort_shows h x y p d (within x (abort_went s x e).1).0
-    go (Refuse r) e = refl
+    go (Ok tt) e = abort_shows h x y p d (within x (abort_went s x e).1).0
+    go (Err r) e = refl
 
 -- an accepted begin: the number is in its range, and was not live
 module _ {h : Past} {s : Lent} (q : Rightly h s) (x : ℕ) (n : Counts) (e : (begin_call s x).answer ≡ Done n) where
-  given : judge_begin s x ≡ Go
+  given : judge_begin s x ≡ Ok tt
   unfolding begin_call
   given = went_done (judge_begin s x) s [] (done_with (begun s x) []) n e
 

@@ -1,5 +1,6 @@
 -- README's advice on 7 and 8, of any sound tables: after an accepted checkpoint with min_del 1 no committed record is online and the log is empty.
 -- So a commit of at most the log's size is not refused 8, an update is refused 7 only while open transactions fill the table, and then one of them can be cancelled, which makes room.
+use Rattle.std.specs.Prelude.{Ok, Err}
 use Prim.Native.Nat.{ℕ, suc, ◌+◌, ◌-◌, ◌≤◌, ◌<◌}
 use native.Mathlib.Omega.{arith}
 use mathlib.Core.Path.{◌≡◌, refl, sym, ap, ◌∙◌, subst}
@@ -19,8 +20,7 @@ use Rattle.rules.specs.declared.Counts.{Counts}
 use Rattle.rules.specs.declared.Refusal.{Refusal}
 use Rattle.rules.specs.declared.Refusal.TheVariants.{NotSound, Argument, OnlineFull, LogFull}
 use Rattle.rules.specs.declared.Bad.TheVariants.{Number}
-use Rattle.rules.specs.declared.Verdict.{Verdict}
-use Rattle.rules.specs.declared.Verdict.TheVariants.{Go, Refuse}
+use Rattle.rules.specs.Calls.{Verdict}
 use Rattle.rules.specs.Answers.{code_of}
 use Rattle.rules.specs.Lent.{Lent, params_of, size_of, pages_of, online_size_of, log_size_of, last_of, logged_of, count_of, online_of}
 use Rattle.rules.specs.Sound.{every, between, sound}
@@ -42,40 +42,40 @@ use Rattle.keeps.proofs.Sweeps.{uncommitted, checkpoint_empties, checkpoint_open
 
 -- the verdict that an answer tells, and its number
 abbrev judged : Answer → Verdict
-judged (Done n) = Go
-judged NotDue = Go
-judged (Refused r) = Refuse r
+judged (Done n) = Ok tt
+judged NotDue = Ok tt
+judged (Refused r) = Err r
 
 abbrev number_told : Verdict → ℕ
-number_told Go = 0
-number_told (Refuse r) = code_of r
+number_told (Ok tt) = 0
+number_told (Err r) = code_of r
 
 judged_back : (v : Verdict) (s : Lent) (buffer after : List ℕ) (d : Left) → judged (settled v s buffer (done_with d after)).answer ≡ v
-judged_back Go s buffer after d = refl
-judged_back (Refuse r) s buffer after d = refl
+judged_back (Ok tt) s buffer after d = refl
+judged_back (Err r) s buffer after d = refl
 
 -- a refusal that was told: a test of its number held
 refuses : Verdict → Bool
-refuses Go = false
-refuses (Refuse r) = true
+refuses (Ok tt) = false
+refuses (Err r) = true
 
-told_held : (ts : List Test) (q : Refusal) → verdict_of ts ≡ Refuse q → any (λ (t : Test). eqb (code_of t.gives) (code_of q) && t.holds) ts ≡ true
+told_held : (ts : List Test) (q : Refusal) → verdict_of ts ≡ Err q → any (λ (t : Test). eqb (code_of t.gives) (code_of q) && t.holds) ts ≡ true
 unfolding verdict_of any refuse_if refuses
 told_held [] q e = absurd (false≢true (ap refuses e))
 told_held (t ∷ ts) q e = go t.holds e (told_held ts q)
   where
-    go : (b : Bool) → refuse_if b t.gives (verdict_of ts) ≡ Refuse q → (verdict_of ts ≡ Refuse q → any (λ (u : Test). eqb (code_of u.gives) (code_of q) && u.holds) ts ≡ true) → ((eqb (code_of t.gives) (code_of q) && b) || any (λ (u : Test). eqb (code_of u.gives) (code_of q) && u.holds) ts) ≡ true
+    go : (b : Bool) → refuse_if b t.gives (verdict_of ts) ≡ Err q → (verdict_of ts ≡ Err q → any (λ (u : Test). eqb (code_of u.gives) (code_of q) && u.holds) ts ≡ true) → ((eqb (code_of t.gives) (code_of q) && b) || any (λ (u : Test). eqb (code_of u.gives) (code_of q) && u.holds) ts) ≡ true
     go true k f = or_left (eqb (code_of t.gives) (code_of q) && true) (any (λ (u : Test). eqb (code_of u.gives) (code_of q) && u.holds) ts) (and_in (eqb (code_of t.gives) (code_of q)) true (eq-eqb (code_of t.gives) (code_of q) (ap (λ (w : Verdict). number_told w) k)) refl)
     go false k f = or_right (eqb (code_of t.gives) (code_of q) && false) (any (λ (u : Test). eqb (code_of u.gives) (code_of q) && u.holds) ts) (f k)
 
 -- 8 was told to a commit: its number is one, and the log had too few rows
-live_told : (b c : Bool) (v : Verdict) → refuse_if b NotSound (refuse_if c (Argument Number) v) ≡ Refuse LogFull → c ≡ false
+live_told : (b c : Bool) (v : Verdict) → refuse_if b NotSound (refuse_if c (Argument Number) v) ≡ Err LogFull → c ≡ false
 unfolding refuse_if
 live_told true c v e = absurd (omega (arith, ap (λ (w : Verdict). number_told w) e))
 live_told false true v e = absurd (omega (arith, ap (λ (w : Verdict). number_told w) e))
 live_told false false v e = refl
 
-commit_test : (t : Lent) (x : ℕ) → judge_commit t x ≡ Refuse LogFull → (is_number x ≡ true) × (no_room (log_size_of t) (logged_of t) (length (owned t x)) ≡ true)
+commit_test : (t : Lent) (x : ℕ) → judge_commit t x ≡ Err LogFull → (is_number x ≡ true) × (no_room (log_size_of t) (logged_of t) (length (owned t x)) ≡ true)
 unfolding judge_commit commit_refusals verdict_of any
 commit_test t x e = (
   not-false (is_number x) (live_told (not (sound t)) (not (is_number x)) (verdict_of (drop 1 (commit_refusals (log_size_of t) (logged_of t) (last_of t) (is_live t.lost.tables) (length (owned t x)) x))) e),
@@ -84,7 +84,7 @@ commit_test t x e = (
 )
 
 -- 7 was told to an update: the table had no free row
-full_test : (t : Lent) (x p offset w kind v : ℕ) → judge_update t x p offset w kind v ≡ Refuse OnlineFull → no_room (online_size_of t) (count_of t) 1 ≡ true
+full_test : (t : Lent) (x p offset w kind v : ℕ) → judge_update t x p offset w kind v ≡ Err OnlineFull → no_room (online_size_of t) (count_of t) 1 ≡ true
 unfolding judge_update update_refusals any
 full_test t x p offset w kind v e =
     sym (or-false (no_room (online_size_of t) (count_of t) 1))
@@ -94,7 +94,7 @@ module _ (s : Lent) (max_age : ℕ) (n : Counts) (e : (checkpoint_call s 1 max_a
   abbrev pub cleared : Lent
   cleared = (checkpoint_call s 1 max_age).lent
 
-  went : judge_checkpoint s 1 max_age ≡ Go
+  went : judge_checkpoint s 1 max_age ≡ Ok tt
   unfolding checkpoint_call
   went = sym (judged_back (judge_checkpoint s 1 max_age) s [] [] (checkpointed 1 max_age s)) ∙ ap (λ (a : Answer). judged a) e
 
@@ -138,7 +138,7 @@ module _ (s : Lent) (max_age : ℕ) (n : Counts) (e : (checkpoint_call s 1 max_a
   pub commit_fits : (x : ℕ) → length (owned s x) ≤ log_size_of s → (commit_call cleared x).answer ≡ Refused LogFull → ⊥
   unfolding commit_call
   commit_fits x fits k =
-      let v : judge_commit cleared x ≡ Refuse LogFull = sym (judged_back (judge_commit cleared x) cleared [] [] (committing cleared x)) ∙ ap (λ (a : Answer). judged a) k in
+      let v : judge_commit cleared x ≡ Err LogFull = sym (judged_back (judge_commit cleared x) cleared [] [] (committing cleared x)) ∙ ap (λ (a : Answer). judged a) k in
       let held = commit_test cleared x v in
       let more : log_size_of cleared < logged_of cleared + length (owned cleared x) = ltb-true (log_size_of cleared) (logged_of cleared + length (owned cleared x)) held.1 in
       let same : log_size_of cleared ≡ log_size_of s = ap (λ (l : List ℕ). num 4 l 16) fixed_still in
@@ -149,7 +149,7 @@ module _ (s : Lent) (max_age : ℕ) (n : Counts) (e : (checkpoint_call s 1 max_a
   pub update_full : (x p offset w kind v : ℕ) → (update_call cleared x p offset w kind v).answer ≡ Refused OnlineFull → length (keep uncommitted (online_of s)) ≡ online_size_of s
   unfolding update_call judge_update
   update_full x p offset w kind v k =
-      let j : judge_update cleared x p offset w kind v ≡ Refuse OnlineFull = sym (judged_back (judge_update cleared x p offset w kind v) cleared [] [] (updated cleared (row_of p offset w kind v x))) ∙ ap (λ (a : Answer). judged a) k in
+      let j : judge_update cleared x p offset w kind v ≡ Err OnlineFull = sym (judged_back (judge_update cleared x p offset w kind v) cleared [] [] (updated cleared (row_of p offset w kind v x))) ∙ ap (λ (a : Answer). judged a) k in
       let held : no_room (online_size_of cleared) (count_of cleared) 1 ≡ true = full_test cleared x p offset w kind v j in
       let more : online_size_of cleared < count_of cleared + 1 = ltb-true (online_size_of cleared) (count_of cleared + 1) held in
       let same : online_size_of cleared ≡ online_size_of s = ap (λ (l : List ℕ). num 4 l 12) fixed_still in
@@ -188,7 +188,7 @@ module _ (t : Lent) (e : sound t ≡ true) (r : List ℕ) (l : List (List ℕ)) 
   holder_is_live : is_live t.lost.tables who_holds ≡ true
   holder_is_live = ap (λ (n : ℕ). eqb n 1) (live_whole t who_holds (sound_whole t e) low high) ∙ facts.1
 
-  aborts_it : judge_abort t who_holds ≡ Go
+  aborts_it : judge_abort t who_holds ≡ Ok tt
   unfolding judge_abort abort_refusals verdict_of refuse_if
   aborts_it = rw (e, holder_is_number, holder_is_live) refl
 

@@ -2,6 +2,7 @@
 -- `read_shows`: "after any calls and power losses, an accepted read shows the starting page with all committed updates, and the reader's own, applied in the order made".
 -- `stored_shows`: "Each stored page is the starting page with just those committed updates numbered up to its stamp", at every moment.
 -- `restart_accepted`: "An accepted restart follows each loss", and one without a loss is accepted too. `always_sound`: soundness holds after every call.
+use Rattle.std.specs.Prelude.{Ok, Err}
 use Prim.Native.Nat.{ℕ, ◌+◌, ◌≤◌, ◌<◌}
 use native.Mathlib.Omega.{arith}
 use mathlib.Core.Path.{◌≡◌, refl, sym, ap, ◌∙◌, subst}
@@ -17,8 +18,7 @@ use Rattle.record.specs.Record.{number_of, committed, applied, on_page, committe
 use Rattle.record.proofs.Changes.{length_applied}
 use Rattle.rules.specs.declared.Answer.TheVariants.{Done}
 use Rattle.rules.specs.declared.Counts.{Counts}
-use Rattle.rules.specs.declared.Verdict.{Verdict}
-use Rattle.rules.specs.declared.Verdict.TheVariants.{Go, Refuse}
+use Rattle.rules.specs.Calls.{Verdict}
 use Rattle.rules.specs.Lent.{Lent, Durable, size_of, pages_of, online_size_of, stamp_at, stamp_of, online_of, page_in}
 use Rattle.rules.specs.Sound.{sound}
 use Rattle.rules.specs.Steps.{place_of, fetched_pool, read_step, read_bytes, entering_all, restarted}
@@ -54,7 +54,7 @@ pub always_sound : {h : Past} {s : Lent} → Run h s → h.down ≡ false → so
 always_sound {h} {s} r n = let q = run_right r n in right_sound q.ground q.done h s q.right
 
 -- a restart is accepted at any time: what is durable is sound, and the online table has room for what enters
-goes : {g : Ground} {done : List (List ℕ)} {h : Past} {s : Lent} → Down g done h s → judge_restart s ≡ Go
+goes : {g : Ground} {done : List (List ℕ)} {h : Past} {s : Lent} → Down g done h s → judge_restart s ≡ Ok tt
 unfolding judge_restart refuse_if verdict_of
 goes {g} {done} {h} {s} d = rw (durable_sound g done s d.durable d.past.formed d.areas, le-ltb (online_size_of s) (length (entering_all s)) (restart_fits d)) refl
 
@@ -62,7 +62,7 @@ pub restart_accepted : {h : Past} {s : Lent} → Run h s → (restart_call s).an
 unfolding restart_call restarted
 restart_accepted {h} {s} r = ap (λ (v : Verdict). (settled v s [] (done_with (restarted s) [])).answer) (go (run_stands r))
   where
-    go : Stands h s → judge_restart s ≡ Go
+    go : Stands h s → judge_restart s ≡ Ok tt
     go (up g done m q) = goes (falls_down q)
     go (down g done m d) = goes d
 
@@ -98,7 +98,7 @@ stored_shows {h} {s} r p m = go (run_stands r)
     go (down g done n d) = stored_page d.past d.durable p m
 
 -- what a read that is accepted copies, from what is right
-module _ {g : Ground} {done : List (List ℕ)} {h : Past} {s : Lent} (q : Right g done h s) (buffer : List ℕ) (x p offset w : ℕ) (e : judge_read s (length buffer) x p offset w ≡ Go) where
+module _ {g : Ground} {done : List (List ℕ)} {h : Past} {s : Lent} (q : Right g done h s) (buffer : List ℕ) (x p offset w : ℕ) (e : judge_read s (length buffer) x p offset w ≡ Ok tt) where
   asked : p < pages_of s
   asked = (read_went s (length buffer) x p offset w e).1
 
@@ -127,5 +127,5 @@ unfolding read_call
 read_shows {h} {s} r n buffer x p offset w c e = go (judge_read s (length buffer) x p offset w) refl e
   where
     go : (v : Verdict) → judge_read s (length buffer) x p offset w ≡ v → (settled v s buffer (done_with (read_step s p) (read_bytes s p offset w buffer))).answer ≡ Done c → (settled v s buffer (done_with (read_step s p) (read_bytes s p offset w buffer))).buffer ≡ part offset w (shown h x p) ++ drop w buffer
-    go Go f k = read_right (run_right r n).right buffer x p offset w f
-    go (Refuse why) f k = let z : ◌≡◌ {A = Bool} false true = cc in absurd (mathlib.Core.Bool.false≢true z)
+    go (Ok tt) f k = read_right (run_right r n).right buffer x p offset w f
+    go (Err why) f k = let z : ◌≡◌ {A = Bool} false true = cc in absurd (mathlib.Core.Bool.false≢true z)

@@ -1,4 +1,5 @@
 -- Every run stands: after each call and each loss the history and the bytes are right, or await a restart.
+use Rattle.std.specs.Prelude.{Ok, Err}
 use Prim.Native.Nat.{ℕ, ◌+◌, ◌*◌, ◌≤◌, ◌<◌}
 use mathlib.Core.Path.{◌≡◌, refl, sym, ap, ◌∙◌}
 use mathlib.Core.Bool.{Bool, true, false}
@@ -13,8 +14,7 @@ use Rattle.rules.specs.declared.Params.{Params}
 use Rattle.rules.specs.declared.Answer.{Answer}
 use Rattle.rules.specs.declared.Answer.TheVariants.{Done, NotDue, Refused}
 use Rattle.rules.specs.declared.Refusal.{Refusal}
-use Rattle.rules.specs.declared.Verdict.{Verdict}
-use Rattle.rules.specs.declared.Verdict.TheVariants.{Go, Refuse}
+use Rattle.rules.specs.Calls.{Verdict}
 use Rattle.rules.specs.Lent.{Lent, Lost, pages_of}
 use Rattle.rules.specs.Sound.{between}
 use Rattle.rules.specs.Steps.{begun, read_step, read_bytes, updated, owned, committing, aborted, evicted, due, compacted, closed, checkpointed, restarted, formatted}
@@ -60,10 +60,10 @@ pub data Stands (h : Past) (s : Lent) : Type 0 where
   down : (g : Ground) (done : List (List ℕ)) → h.down ≡ true → Down g done h s → Stands h s
 
 -- a call that is settled: refused, nothing changes; else its step
-pub by_verdict : (P : Past → Lent → Type 0) {h : Past} {s : Lent} → P h s → (c : Call) (buffer : List ℕ) (o : Outcome) (v : Verdict) → (v ≡ Go → P (told h c o.answer) o.lent) → P (told h c (settled v s buffer o).answer) (settled v s buffer o).lent
+pub by_verdict : (P : Past → Lent → Type 0) {h : Past} {s : Lent} → P h s → (c : Call) (buffer : List ℕ) (o : Outcome) (v : Verdict) → (v ≡ Ok tt → P (told h c o.answer) o.lent) → P (told h c (settled v s buffer o).answer) (settled v s buffer o).lent
 unfolding told
-by_verdict P p c buffer o Go f = f refl
-by_verdict P p c buffer o (Refuse r) f = p
+by_verdict P p c buffer o (Ok tt) f = f refl
+by_verdict P p c buffer o (Err r) f = p
 
 -- what adds nothing to the history when it is done adds nothing at all
 pub told_silent : (h : Past) (c : Call) → taken h c ≡ h → (a : Answer) → told h c a ≡ h
@@ -80,28 +80,28 @@ module _ {g : Ground} {done : List (List ℕ)} {h : Past} {s : Lent} (n : h.down
   unfolding begin_call told taken begins here
   stands_begin x = by_verdict Stands here (Begin x) [] (done_with (begun s x) []) (judge_begin s x) go
     where
-      go : judge_begin s x ≡ Go → Stands (begins h x) (begun s x).lent
+      go : judge_begin s x ≡ Ok tt → Stands (begins h x) (begun s x).lent
       go e = let w = within x (begin_went s x e).1 in up g done n (keeps_begin x w.0 w.1 r)
 
   stands_evict : (p : ℕ) → Stands (told h (Evict p) (evict_call s p).answer) (evict_call s p).lent
   unfolding evict_call told taken here
   stands_evict p = by_verdict Stands here (Evict p) [] (done_with (evicted s p) []) (judge_evict s p) go
     where
-      go : judge_evict s p ≡ Go → Stands h (evicted s p).lent
+      go : judge_evict s p ≡ Ok tt → Stands h (evicted s p).lent
       go e = let w = evict_went s p e in up g done n (keeps_evict p w.1 w.2 r)
 
   stands_read : (buffer : List ℕ) (x p offset w : ℕ) → Stands (told h (Read buffer x p offset w) (read_call s buffer x p offset w).answer) (read_call s buffer x p offset w).lent
   unfolding read_call told taken here
   stands_read buffer x p offset w = by_verdict Stands here (Read buffer x p offset w) buffer (done_with (read_step s p) (read_bytes s p offset w buffer)) (judge_read s (length buffer) x p offset w) go
     where
-      go : judge_read s (length buffer) x p offset w ≡ Go → Stands h (read_step s p).lent
+      go : judge_read s (length buffer) x p offset w ≡ Ok tt → Stands h (read_step s p).lent
       go e = up g done n (keeps_read p (read_went s (length buffer) x p offset w e).1 r)
 
   stands_update : (x p offset w kind v : ℕ) → Stands (told h (Update x p offset w kind v) (update_call s x p offset w kind v).answer) (update_call s x p offset w kind v).lent
   unfolding update_call told taken updates here
   stands_update x p offset w kind v = by_verdict Stands here (Update x p offset w kind v) [] (done_with (updated s (row_of p offset w kind v x)) []) (judge_update s x p offset w kind v) go
     where
-      go : judge_update s x p offset w kind v ≡ Go → Stands (updates h (row_of p offset w kind v x)) (updated s (row_of p offset w kind v x)).lent
+      go : judge_update s x p offset w kind v ≡ Ok tt → Stands (updates h (row_of p offset w kind v x)) (updated s (row_of p offset w kind v x)).lent
       go e =
           let a = update_went s x p offset w kind v e in
           let b = update_whose s x p offset w kind v e in
@@ -114,7 +114,7 @@ module _ {g : Ground} {done : List (List ℕ)} {h : Past} {s : Lent} (n : h.down
   unfolding commit_call told taken commits here
   stands_commit x = by_verdict Stands here (Commit x) [] (done_with (committing s x) []) (judge_commit s x) go
     where
-      go : judge_commit s x ≡ Go → Stands (commits h x) (committing s x).lent
+      go : judge_commit s x ≡ Ok tt → Stands (commits h x) (committing s x).lent
       go e =
           let a = commit_went s x e in
           let m = within x a.1 in
@@ -124,7 +124,7 @@ module _ {g : Ground} {done : List (List ℕ)} {h : Past} {s : Lent} (n : h.down
   unfolding abort_call told taken aborts here
   stands_abort x = by_verdict Stands here (Abort x) [] (done_with (aborted s x) []) (judge_abort s x) go
     where
-      go : judge_abort s x ≡ Go → Stands (aborts h x) (aborted s x).lent
+      go : judge_abort s x ≡ Ok tt → Stands (aborts h x) (aborted s x).lent
       go e = let m = within x (abort_went s x e).1 in up g done n (keeps_abort x m.0 m.1 r)
 
   stands_compact : (p min_del max_age : ℕ) → Stands (told h (Compact p min_del max_age) (compact_call s p min_del max_age).answer) (compact_call s p min_del max_age).lent
@@ -135,7 +135,7 @@ module _ {g : Ground} {done : List (List ℕ)} {h : Past} {s : Lent} (n : h.down
       by_due true e m = up g done n (keeps_compact p min_del max_age m e r)
       by_due false e m = up g done n r
 
-      go : judge_compact s p min_del max_age ≡ Go → Stands (told h (Compact p min_del max_age) (due_or (due s p min_del max_age) s (done_with (compacted s p) [])).answer) (due_or (due s p min_del max_age) s (done_with (compacted s p) [])).lent
+      go : judge_compact s p min_del max_age ≡ Ok tt → Stands (told h (Compact p min_del max_age) (due_or (due s p min_del max_age) s (done_with (compacted s p) [])).answer) (due_or (due s p min_del max_age) s (done_with (compacted s p) [])).lent
       go e = by_due (due s p min_del max_age) refl (compact_went s p min_del max_age e).1
 
   stands_close : Stands (told h Close (close_call s).answer) (close_call s).lent
@@ -183,16 +183,16 @@ unfolding format_call fresh
 stands_format s g last e = go (judge_format s g last) refl e
   where
     go : (v : Verdict) → judge_format s g last ≡ v → (settled v s [] (done_with (formatted s g last) [])).answer ≡ Done (record { reads = 0; writes = 0; logs = 0 }) → Stands (fresh g last s.durable.stored) (settled v s [] (done_with (formatted s g last) [])).lent
-    go Go f k = up (record { size = g.size; pages = g.pages; start = s.durable.stored; base = last }) [] refl (let w = format_went s g last f in format_right s g last w.3 w.0 w.2)
-    go (Refuse why) f k = let z : ◌≡◌ {A = Bool} false true = cc in absurd (mathlib.Core.Bool.false≢true z)
+    go (Ok tt) f k = up (record { size = g.size; pages = g.pages; start = s.durable.stored; base = last }) [] refl (let w = format_went s g last f in format_right s g last w.3 w.0 w.2)
+    go (Err why) f k = let z : ◌≡◌ {A = Bool} false true = cc in absurd (mathlib.Core.Bool.false≢true z)
 
 stands_no_format : {h : Past} {s : Lent} → Stands h s → (g : Params) (last : ℕ) (why : Refusal) → (format_call s g last).answer ≡ Refused why → Stands h (format_call s g last).lent
 unfolding format_call
 stands_no_format {h} {s} st g last why e = go (judge_format s g last) e
   where
     go : (v : Verdict) → (settled v s [] (done_with (formatted s g last) [])).answer ≡ Refused why → Stands h (settled v s [] (done_with (formatted s g last) [])).lent
-    go Go k = let z : ◌≡◌ {A = Bool} false true = cc in absurd (mathlib.Core.Bool.false≢true z)
-    go (Refuse r) k = st
+    go (Ok tt) k = let z : ◌≡◌ {A = Bool} false true = cc in absurd (mathlib.Core.Bool.false≢true z)
+    go (Err r) k = st
 
 -- the areas are as long after some steps as before
 fits_same : {g : Ground} {done : List (List ℕ)} {h : Past} {s t : Lent} → Right g done h s → Right g done h t → t.durable.fixed ≡ s.durable.fixed → (l : Lost) → Fits s l → Fits t l

@@ -1,5 +1,6 @@
 -- Two stores that are driven side by side give the same answers, counts apart, and a read the same bytes, until one of them reports 7 or 8.
 -- Each is a run of the same history, and what the history says does not look at a table.
+use Rattle.std.specs.Prelude.{Ok, Err}
 use Prim.Native.Nat.{ℕ}
 use mathlib.Core.Path.{◌≡◌, refl, sym, ap, ◌∙◌, subst}
 use mathlib.Core.Logic.{inl, inr}
@@ -11,8 +12,7 @@ use Rattle.rules.specs.declared.Params.{Params}
 use Rattle.rules.specs.declared.Refusal.{Refusal}
 use Rattle.rules.specs.declared.Refusal.TheVariants.{OnlineFull, LogFull}
 use Rattle.rules.specs.declared.Answer.{Answer}
-use Rattle.rules.specs.declared.Verdict.{Verdict}
-use Rattle.rules.specs.declared.Verdict.TheVariants.{Go, Refuse}
+use Rattle.rules.specs.Calls.{Verdict}
 use Rattle.rules.specs.Lent.{Lent}
 use Rattle.rules.specs.Steps.{Left, begun, read_step, read_bytes, updated, committing, aborted}
 use Rattle.rules.specs.Calls.{Outcome, settled, done_with, begin_call, read_call, update_call, commit_call, abort_call, restart_call, format_call}
@@ -29,13 +29,13 @@ abbrev pub Alike : Outcome → Outcome → Type 0
 Alike a b = Agree a.answer b.answer × (a.buffer ≡ b.buffer)
 
 -- the same verdict: both refuse alike, or both act; then the bytes handed back have to be the same
-alike_by : {v₁ v₂ : Verdict} → v₁ ≡ v₂ → (s₁ s₂ : Lent) (buffer : List ℕ) (d₁ d₂ : Left) (b₁ b₂ : List ℕ) → (v₁ ≡ Go → v₂ ≡ Go → b₁ ≡ b₂)
+alike_by : {v₁ v₂ : Verdict} → v₁ ≡ v₂ → (s₁ s₂ : Lent) (buffer : List ℕ) (d₁ d₂ : Left) (b₁ b₂ : List ℕ) → (v₁ ≡ Ok tt → v₂ ≡ Ok tt → b₁ ≡ b₂)
     → Alike (settled v₁ s₁ buffer (done_with d₁ b₁)) (settled v₂ s₂ buffer (done_with d₂ b₂))
 alike_by {v₁} {v₂} e s₁ s₂ buffer d₁ d₂ b₁ b₂ f = subst (λ (v : Verdict). Alike (settled v₁ s₁ buffer (done_with d₁ b₁)) (settled v s₂ buffer (done_with d₂ b₂))) e (go v₁ (λ k. f k (sym e ∙ k)))
   where
-    go : (v : Verdict) → (v ≡ Go → b₁ ≡ b₂) → Alike (settled v s₁ buffer (done_with d₁ b₁)) (settled v s₂ buffer (done_with d₂ b₂))
-    go Go k = (acted (record { reads = d₁.reads; writes = d₁.writes; logs = d₁.logs }) (record { reads = d₂.reads; writes = d₂.writes; logs = d₂.logs }), k refl)
-    go (Refuse r) k = (refused r, refl)
+    go : (v : Verdict) → (v ≡ Ok tt → b₁ ≡ b₂) → Alike (settled v s₁ buffer (done_with d₁ b₁)) (settled v s₂ buffer (done_with d₂ b₂))
+    go (Ok tt) k = (acted (record { reads = d₁.reads; writes = d₁.writes; logs = d₁.logs }) (record { reads = d₂.reads; writes = d₂.writes; logs = d₂.logs }), k refl)
+    go (Err r) k = (refused r, refl)
 
 -- what is not refused with 7 or 8 is answered as the history says
 said_unless : (r : Refusal) {v w : Verdict} (s : Lent) (buffer : List ℕ) (o : Outcome) → is_full r ≡ true → Unless r v w → full (settled v s buffer o).answer ≡ false → v ≡ w

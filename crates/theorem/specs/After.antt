@@ -1,10 +1,9 @@
 -- What may follow on a history and its bytes, for the incident: any calls and losses, but no new format; and a claim under one number.
-use Rattle.std.specs.Prelude.{ℕ, ◌+◌, ◌≤◌, ◌≡◌, Bool, true, false, eqb}
+use Rattle.std.specs.Prelude.{ℕ, ◌+◌, ◌≤◌, ◌≡◌, Bool, true, false, eqb, Ok}
 use Rattle.rules.specs.declared.Answer.TheVariants.{Done, Refused}
 use Rattle.rules.specs.declared.Params.{Params}
 use Rattle.rules.specs.declared.Counts.{Counts}
 use Rattle.rules.specs.declared.Refusal.{Refusal}
-use Rattle.rules.specs.declared.Verdict.TheVariants.{Go}
 use Rattle.rules.specs.Lent.{Lent, Lost, pages_of}
 use Rattle.rules.specs.Calls.{begin_call, restart_call, format_call, judge_checkpoint}
 use Rattle.history.specs.Past.{Past, falls}
@@ -16,7 +15,7 @@ pub data After (h : Past) (s : Lent) : Past → Lent → Type 0 where
   then_call : {k : Past} {t : Lent} → After h s k t → k.down ≡ false → (c : Call) → After h s (told k c (outcome t c).answer) (outcome t c).lent
   then_restart : {k : Past} {t : Lent} → After h s k t → After h s (told k Restart (restart_call t).answer) (restart_call t).lent
   then_loss : {k : Past} {t : Lent} → After h s k t → (l : Lost) → Fits t l → After h s (falls k) (after_loss t l)
-  then_loss_inside : {k : Past} {t : Lent} → After h s k t → k.down ≡ false → (min_del max_age j : ℕ) → judge_checkpoint t min_del max_age ≡ Go → j ≤ pages_of t + 1 → (l : Lost) → Fits t l → After h s (falls k) (after_loss (after_steps min_del max_age j t) l)
+  then_loss_inside : {k : Past} {t : Lent} → After h s k t → k.down ≡ false → (min_del max_age j : ℕ) → judge_checkpoint t min_del max_age ≡ Ok tt → j ≤ pages_of t + 1 → (l : Lost) → Fits t l → After h s (falls k) (after_loss (after_steps min_del max_age j t) l)
   then_no_format : {k : Past} {t : Lent} → After h s k t → (g : Params) (last : ℕ) (r : Refusal) → (format_call t g last).answer ≡ Refused r → After h s k (format_call t g last).lent
 
 -- what may be called during a claim under the number x: updates under x, any reads, and evict, compact, close and checkpoint

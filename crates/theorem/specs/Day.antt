@@ -1,10 +1,9 @@
 -- An ordinary firmware: it lends each call what the last one left, and when the power is back it calls restart, or format, before anything else.
-use Rattle.std.specs.Prelude.{ℕ, zero, suc, ◌+◌, cond, List, [], ◌∷◌, length, leb}
+use Rattle.std.specs.Prelude.{ℕ, zero, suc, ◌+◌, cond, List, [], ◌∷◌, length, leb, Ok, Err}
 use Rattle.rules.specs.declared.Params.{Params}
 use Rattle.rules.specs.declared.Answer.{Answer}
 use Rattle.rules.specs.declared.Answer.TheVariants.{Done, NotDue, Refused}
-use Rattle.rules.specs.declared.Verdict.{Verdict}
-use Rattle.rules.specs.declared.Verdict.TheVariants.{Go, Refuse}
+use Rattle.rules.specs.Calls.{Verdict}
 use Rattle.rules.specs.Lent.{Lent, Lost, pages_of}
 use Rattle.rules.specs.Calls.{format_call, judge_checkpoint}
 use Rattle.history.specs.Past.{Past, fresh, falls}
@@ -86,8 +85,8 @@ back d (FormatsFirst g last) = or_restart (format_call d.lent g last).answer (fo
 
 -- the bytes inside a checkpoint, after its first j steps; a checkpoint that is refused, or has no such step, has left them alone
 unfoldable pub bytes_inside : Verdict → ℕ → ℕ → ℕ → Lent → Lent
-bytes_inside Go min_del max_age j s = cond (leb j (pages_of s + 1)) (after_steps min_del max_age j s) s
-bytes_inside (Refuse r) min_del max_age j s = s
+bytes_inside (Ok tt) min_del max_age j s = cond (leb j (pages_of s + 1)) (after_steps min_del max_age j s) s
+bytes_inside (Err r) min_del max_age j s = s
 
 -- what the store is after an event
 unfoldable pub next : Store → Event → Store

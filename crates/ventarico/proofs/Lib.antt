@@ -1,4 +1,2 @@
 -- Laws of the doors.
-pub mod Laws
 pub mod Once
-pub mod Clerks

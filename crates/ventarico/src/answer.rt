@@ -8,13 +8,13 @@ use rules::{Answer, Counts, Refusal, Reply};
 pub fn refused(why: Refusal) -> Reply
     ensures { result ≡ reply_of (Answer.Refused why) }
 {
-    rules::answered(Answer::Refused(why))
+    Reply::from(Answer::Refused(why))
 }
 
 pub fn done(reads: u32, writes: u32, logs: u32) -> Reply
     ensures { result ≡ done_as reads writes logs }
 {
-    rules::answered(Answer::Done(Counts {
+    Reply::from(Answer::Done(Counts {
         reads,
         writes,
         logs,
@@ -25,5 +25,5 @@ pub fn done(reads: u32, writes: u32, logs: u32) -> Reply
 pub fn not_due() -> Reply
     ensures { result ≡ reply_of Answer.NotDue }
 {
-    rules::answered(Answer::NotDue)
+    Reply::from(Answer::NotDue)
 }

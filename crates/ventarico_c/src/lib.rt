@@ -6,7 +6,7 @@ ghost use Rattle.clerk.specs.Rule.{aborts, begins, commits};
 ghost use Rattle.rules.specs.Areas.{areas};
 ghost use Rattle.rules.specs.Calls.{abort_call, begin_call, checkpoint_call, close_call, commit_call, compact_call, evict_call, format_call, read_call, restart_call, update_call};
 ghost use Rattle.rules.specs.Lent.{given};
-ghost use Rattle.ventarico.specs.Said.{Told};
+ghost use Rattle.ventarico.specs.Said.{Settled, Told};
 
 use clerk::Clerk;
 use rules::Reply;
@@ -259,7 +259,7 @@ pub extern "C" fn ventarico_checkpoint(
 // Makes the number live.
 #[unsafe(no_mangle)]
 pub extern "C" fn ventarico_clerk_begin(c: &mut Clerk, x: u32) -> u8
-    ensures { (result ≡ (begins c.old x).code) × (c.new ≡ (begins c.old x).clerk) }
+    ensures { Settled (begins c.old x) c.old result c.new }
 {
     ventarico::clerk_call::ventarico_clerk_begin(c, x)
 }
@@ -267,7 +267,7 @@ pub extern "C" fn ventarico_clerk_begin(c: &mut Clerk, x: u32) -> u8
 // Ends the transaction.
 #[unsafe(no_mangle)]
 pub extern "C" fn ventarico_clerk_abort(c: &mut Clerk, x: u32) -> u8
-    ensures { (result ≡ (aborts c.old x).code) × (c.new ≡ (aborts c.old x).clerk) }
+    ensures { Settled (aborts c.old x) c.old result c.new }
 {
     ventarico::clerk_call::ventarico_clerk_abort(c, x)
 }
@@ -275,7 +275,7 @@ pub extern "C" fn ventarico_clerk_abort(c: &mut Clerk, x: u32) -> u8
 // Ends the transaction and takes k log numbers for its records.
 #[unsafe(no_mangle)]
 pub extern "C" fn ventarico_clerk_commit(c: &mut Clerk, x: u32, k: u32) -> u8
-    ensures { (result ≡ (commits c.old x k).code) × (c.new ≡ (commits c.old x k).clerk) }
+    ensures { Settled (commits c.old x k) c.old result c.new }
 {
     ventarico::clerk_call::ventarico_clerk_commit(c, x, k)
 }

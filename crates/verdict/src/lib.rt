@@ -1,155 +1,92 @@
 // Each call judged whole: soundness first, then the call's own refusals in their order. Everything is lent to be read.
-// These ask nothing of their caller; `Go` is what a door waits for.
+// These ask nothing of their caller; `Ok` is what a door waits for.
 #![tactic(auto)]
 
-ghost use Rattle.std.specs.Prelude.{◌≡◌, true, ◌&&◌, ◌≤◌, length, get_or, eqb};
+ghost use Rattle.std.specs.Prelude.{◌≡◌, [], ◌∷◌, OnOk, true, ◌&&◌, ◌≤◌, length, get_or, eqb};
 ghost use Rattle.rules.specs.Sound.{in_range, exact_lengths};
 ghost use Rattle.rules.specs.Lent.{fixed_length, entry_at};
-ghost use Rattle.rules.specs.Areas.{areas};
-ghost use Rattle.rules.specs.Calls.{judge_begin, judge_read, judge_update, judge_commit, judge_abort, judge_evict, judge_compact, judge_close, judge_checkpoint, judge_restart, judge_format};
+ghost use Rattle.rules.specs.Shape.{Shaped};
+ghost use Rattle.rules.specs.Areas.{areas_of};
+ghost use Rattle.rules.specs.Calls.{unsound, verdict_of, judge_begin, judge_read, judge_update, judge_commit, judge_abort, judge_evict, judge_compact, judge_close, judge_checkpoint, judge_restart, judge_format};
 
-use rules::{Bad, Params, Refusal, Verdict};
+use layout::read;
+use record::row;
+use rules::{Areas, Bad, Params, Refusal, Verdict};
 
-pub fn judge_begin(
-    fixed: &[u8],
-    marks: &[u8],
-    log: &[u8],
-    stored: &[u8],
-    tables: &[u8],
-    online: &[u8],
-    pool: &[u8],
-    x: u32,
-) -> Verdict
-    ensures { result ≡ judge_begin (areas fixed.now marks.now log.now stored.now tables.now online.now pool.now) x }
+// "Checked first by every call except format."
+#[tactic(auto, unfolding(rules::specs::Calls::verdict_of, rules::specs::Calls::refuse_if))]
+fn check_sound(lent: &Areas<'_>) -> Verdict
+    ensures first { result ≡ verdict_of (unsound (areas_of lent.now) ∷ []) }
+    ensures shaped { OnOk result (Shaped (areas_of lent.now)) }
 {
-    if !sound::is_sound(fixed, marks, log, stored, tables, online, pool) {
-        return Verdict::Refuse(Refusal::NotSound);
+    if !sound::is_sound(lent) {
+        return Err(Refusal::NotSound);
     }
-    judge::may_begin(tables, x)
+    Ok(())
 }
 
-pub fn judge_abort(
-    fixed: &[u8],
-    marks: &[u8],
-    log: &[u8],
-    stored: &[u8],
-    tables: &[u8],
-    online: &[u8],
-    pool: &[u8],
-    x: u32,
-) -> Verdict
-    ensures { result ≡ judge_abort (areas fixed.now marks.now log.now stored.now tables.now online.now pool.now) x }
+#[tactic(auto, using(crate::proofs::Laws::checked_err, crate::proofs::Laws::checked_ok), unfolding(rules::specs::Calls::judge_begin))]
+pub fn judge_begin(lent: &Areas<'_>, x: u32) -> Verdict
+    ensures { result ≡ judge_begin (areas_of lent.now) x }
 {
-    if !sound::is_sound(fixed, marks, log, stored, tables, online, pool) {
-        return Verdict::Refuse(Refusal::NotSound);
-    }
-    judge::may_abort(tables, x)
+    check_sound(lent)?;
+    judge::may_begin(lent.tables, x)
 }
 
-pub fn judge_close(
-    fixed: &[u8],
-    marks: &[u8],
-    log: &[u8],
-    stored: &[u8],
-    tables: &[u8],
-    online: &[u8],
-    pool: &[u8],
-) -> Verdict
-    ensures { result ≡ judge_close (areas fixed.now marks.now log.now stored.now tables.now online.now pool.now) }
+#[tactic(auto, using(crate::proofs::Laws::checked_err, crate::proofs::Laws::checked_ok), unfolding(rules::specs::Calls::judge_abort))]
+pub fn judge_abort(lent: &Areas<'_>, x: u32) -> Verdict
+    ensures { result ≡ judge_abort (areas_of lent.now) x }
 {
-    if !sound::is_sound(fixed, marks, log, stored, tables, online, pool) {
-        return Verdict::Refuse(Refusal::NotSound);
-    }
-    Verdict::Go
+    check_sound(lent)?;
+    judge::may_abort(lent.tables, x)
 }
 
-pub fn judge_checkpoint(
-    fixed: &[u8],
-    marks: &[u8],
-    log: &[u8],
-    stored: &[u8],
-    tables: &[u8],
-    online: &[u8],
-    pool: &[u8],
-    min_del: u32,
-    max_age: u32,
-) -> Verdict
-    ensures { result ≡ judge_checkpoint (areas fixed.now marks.now log.now stored.now tables.now online.now pool.now) min_del max_age }
+#[tactic(auto, unfolding(rules::specs::Calls::judge_close))]
+pub fn judge_close(lent: &Areas<'_>) -> Verdict
+    ensures { result ≡ judge_close (areas_of lent.now) }
 {
-    if !sound::is_sound(fixed, marks, log, stored, tables, online, pool) {
-        return Verdict::Refuse(Refusal::NotSound);
-    }
+    check_sound(lent)
+}
+
+#[tactic(auto, using(crate::proofs::Laws::checked_err, crate::proofs::Laws::checked_ok), unfolding(rules::specs::Calls::judge_checkpoint))]
+pub fn judge_checkpoint(lent: &Areas<'_>, min_del: u32, max_age: u32) -> Verdict
+    ensures { result ≡ judge_checkpoint (areas_of lent.now) min_del max_age }
+{
+    check_sound(lent)?;
     judge::may_checkpoint(min_del, max_age)
 }
 
-pub fn judge_compact(
-    fixed: &[u8],
-    marks: &[u8],
-    log: &[u8],
-    stored: &[u8],
-    tables: &[u8],
-    online: &[u8],
-    pool: &[u8],
-    p: u32,
-    min_del: u32,
-    max_age: u32,
-) -> Verdict
-    ensures { result ≡ judge_compact (areas fixed.now marks.now log.now stored.now tables.now online.now pool.now) p min_del max_age }
+#[tactic(auto, using(crate::proofs::Laws::checked_err, crate::proofs::Laws::checked_ok), unfolding(rules::specs::Calls::judge_compact))]
+pub fn judge_compact(lent: &Areas<'_>, p: u32, min_del: u32, max_age: u32) -> Verdict
+    ensures { result ≡ judge_compact (areas_of lent.now) p min_del max_age }
 {
-    if !sound::is_sound(fixed, marks, log, stored, tables, online, pool) {
-        return Verdict::Refuse(Refusal::NotSound);
-    }
-    let given = layout::params_of(fixed);
+    check_sound(lent)?;
+    let given = layout::params_of(lent.fixed);
     judge::may_compact(given.pages as usize, p, min_del, max_age)
 }
 
-pub fn judge_evict(
-    fixed: &[u8],
-    marks: &[u8],
-    log: &[u8],
-    stored: &[u8],
-    tables: &[u8],
-    online: &[u8],
-    pool: &[u8],
-    p: u32,
-) -> Verdict
-    ensures { result ≡ judge_evict (areas fixed.now marks.now log.now stored.now tables.now online.now pool.now) p }
+#[tactic(auto, using(crate::proofs::Laws::checked_err, crate::proofs::Laws::checked_ok), unfolding(rules::specs::Calls::judge_evict))]
+pub fn judge_evict(lent: &Areas<'_>, p: u32) -> Verdict
+    ensures { result ≡ judge_evict (areas_of lent.now) p }
 {
-    if !sound::is_sound(fixed, marks, log, stored, tables, online, pool) {
-        return Verdict::Refuse(Refusal::NotSound);
-    }
-    let given = layout::params_of(fixed);
-    let entry = entry_of(tables, given.frames as usize, p);
+    check_sound(lent)?;
+    let given = layout::params_of(lent.fixed);
+    let entry = entry_of(lent.tables, given.frames as usize, p);
     judge::may_evict(given.pages as usize, entry, p)
 }
 
-pub fn judge_read(
-    fixed: &[u8],
-    marks: &[u8],
-    log: &[u8],
-    stored: &[u8],
-    tables: &[u8],
-    online: &[u8],
-    pool: &[u8],
-    room: usize,
-    x: u32,
-    p: u32,
-    offset: u32,
-    w: u32,
-) -> Verdict
-    ensures { result ≡ judge_read (areas fixed.now marks.now log.now stored.now tables.now online.now pool.now) room x p offset w }
+#[tactic(auto, using(crate::proofs::Laws::checked_err, crate::proofs::Laws::checked_ok), unfolding(rules::specs::Calls::judge_read))]
+pub fn judge_read(lent: &Areas<'_>, room: usize, x: u32, p: u32, offset: u32, w: u32) -> Verdict
+    ensures { result ≡ judge_read (areas_of lent.now) room x p offset w }
 {
-    if !sound::is_sound(fixed, marks, log, stored, tables, online, pool) {
-        return Verdict::Refuse(Refusal::NotSound);
-    }
-    let given = layout::params_of(fixed);
-    let m = word::load(tables, layout::COUNT_AT, 2) as usize;
+    check_sound(lent)?;
+    let given = layout::params_of(lent.fixed);
+    let online = row::first_rows::<19>(lent.online, read::count_of(lent.tables));
     judge::may_read(
         given.size as usize,
         given.pages as usize,
-        tables,
+        lent.tables,
         online,
-        m,
         room,
         x,
         p,
@@ -158,14 +95,9 @@ pub fn judge_read(
     )
 }
 
+#[tactic(auto, using(crate::proofs::Laws::checked_err, crate::proofs::Laws::checked_ok, record::proofs::Rows::length_rows), unfolding(rules::specs::Calls::judge_update))]
 pub fn judge_update(
-    fixed: &[u8],
-    marks: &[u8],
-    log: &[u8],
-    stored: &[u8],
-    tables: &[u8],
-    online: &[u8],
-    pool: &[u8],
+    lent: &Areas<'_>,
     x: u32,
     p: u32,
     offset: u32,
@@ -173,20 +105,17 @@ pub fn judge_update(
     kind: u32,
     v: u64,
 ) -> Verdict
-    ensures { result ≡ judge_update (areas fixed.now marks.now log.now stored.now tables.now online.now pool.now) x p offset w kind v }
+    ensures { result ≡ judge_update (areas_of lent.now) x p offset w kind v }
 {
-    if !sound::is_sound(fixed, marks, log, stored, tables, online, pool) {
-        return Verdict::Refuse(Refusal::NotSound);
-    }
-    let given = layout::params_of(fixed);
-    let m = word::load(tables, 0, 2) as usize;
+    check_sound(lent)?;
+    let given = layout::params_of(lent.fixed);
+    let online = row::first_rows::<19>(lent.online, read::count_of(lent.tables));
     judge::may_update(
         given.size as usize,
         given.pages as usize,
         given.online as usize,
-        tables,
+        lent.tables,
         online,
-        m,
         x,
         p,
         offset,
@@ -196,75 +125,49 @@ pub fn judge_update(
     )
 }
 
-pub fn judge_commit(
-    fixed: &[u8],
-    marks: &[u8],
-    log: &[u8],
-    stored: &[u8],
-    tables: &[u8],
-    online: &[u8],
-    pool: &[u8],
-    x: u32,
-) -> Verdict
-    ensures { result ≡ judge_commit (areas fixed.now marks.now log.now stored.now tables.now online.now pool.now) x }
+#[tactic(auto, using(crate::proofs::Laws::checked_err, crate::proofs::Laws::checked_ok, record::proofs::Rows::length_rows), unfolding(rules::specs::Calls::judge_commit))]
+pub fn judge_commit(lent: &Areas<'_>, x: u32) -> Verdict
+    ensures { result ≡ judge_commit (areas_of lent.now) x }
 {
-    if !sound::is_sound(fixed, marks, log, stored, tables, online, pool) {
-        return Verdict::Refuse(Refusal::NotSound);
-    }
-    let given = layout::params_of(fixed);
-    let m = word::load(tables, layout::COUNT_AT, 2) as usize;
-    let n = word::load(marks, layout::LOGGED_AT, 4) as usize;
-    let last = word::load(marks, layout::LAST_AT, 4);
+    check_sound(lent)?;
+    let given = layout::params_of(lent.fixed);
+    let n = read::logged_of(lent.marks);
+    let last = read::last_of(lent.marks);
     if 32 < x {
-        return Verdict::Refuse(Refusal::Argument(Bad::Number));
+        return Err(Refusal::Argument(Bad::Number));
     }
-    let k = table::count_owned(online, m, x as u8);
-    judge::may_commit(given.log as usize, n, last, tables, k, x)
+    let online = row::first_rows::<19>(lent.online, read::count_of(lent.tables));
+    let k = table::count_owned(online, x as u8);
+    judge::may_commit(given.log as usize, n, last.0, lent.tables, k, x)
 }
 
-pub fn judge_restart(
-    fixed: &[u8],
-    marks: &[u8],
-    log: &[u8],
-    stored: &[u8],
-    tables: &[u8],
-    online: &[u8],
-    pool: &[u8],
-) -> Verdict
-    ensures { result ≡ judge_restart (areas fixed.now marks.now log.now stored.now tables.now online.now pool.now) }
+#[tactic(auto, unfolding(rules::specs::Calls::judge_restart, rules::specs::Calls::verdict_of, rules::specs::Calls::refuse_if))]
+pub fn judge_restart(lent: &Areas<'_>) -> Verdict
+    ensures { result ≡ judge_restart (areas_of lent.now) }
 {
-    if !durable::sound_durable(fixed, marks, log, stored, tables, online, pool) {
-        return Verdict::Refuse(Refusal::NotSound);
+    if !durable::sound_durable(lent) {
+        return Err(Refusal::NotSound);
     }
-    let given = layout::params_of(fixed);
-    let k = restart::count_entering(fixed, marks, log, stored, tables, online, pool);
+    let given = layout::params_of(lent.fixed);
+    let k = restart::count_entering(lent);
     if (given.online as usize) < k {
-        return Verdict::Refuse(Refusal::OnlineFull);
+        return Err(Refusal::OnlineFull);
     }
-    Verdict::Go
+    Ok(())
 }
 
-pub fn judge_format(
-    fixed: &[u8],
-    marks: &[u8],
-    log: &[u8],
-    stored: &[u8],
-    tables: &[u8],
-    online: &[u8],
-    pool: &[u8],
-    g: Params,
-    last: u32,
-) -> Verdict
-    ensures { result ≡ judge_format (areas fixed.now marks.now log.now stored.now tables.now online.now pool.now) g last }
+#[tactic(auto, unfolding(rules::specs::Calls::judge_format, rules::specs::Calls::verdict_of, rules::specs::Calls::refuse_if))]
+pub fn judge_format(lent: &Areas<'_>, g: Params, last: u32) -> Verdict
+    ensures { result ≡ judge_format (areas_of lent.now) g last }
 {
     // every number of 32 bits is in L's range
     if !durable::in_range(g) {
-        return Verdict::Refuse(Refusal::Argument(Bad::Parameter));
+        return Err(Refusal::Argument(Bad::Parameter));
     }
-    if !lengths(fixed, marks, log, stored, tables, online, pool, g) {
-        return Verdict::Refuse(Refusal::Argument(Bad::Lent));
+    if !lengths(lent, g) {
+        return Err(Refusal::Argument(Bad::Lent));
     }
-    Verdict::Go
+    Ok(())
 }
 
 // The entry of a page; 0 where there is no such page.
@@ -280,21 +183,12 @@ fn entry_of(tables: &[u8], frames: usize, p: u32) -> u8
 }
 
 // Format's lent lengths.
-fn lengths(
-    fixed: &[u8],
-    marks: &[u8],
-    log: &[u8],
-    stored: &[u8],
-    tables: &[u8],
-    online: &[u8],
-    pool: &[u8],
-    g: Params,
-) -> bool
+fn lengths(lent: &Areas<'_>, g: Params) -> bool
     requires { in_range g ≡ true }
-    ensures { result ≡ (eqb (length fixed.now) fixed_length && exact_lengths (areas fixed.now marks.now log.now stored.now tables.now online.now pool.now) g) }
+    ensures { result ≡ (eqb (length lent.now.fixed.now) fixed_length && exact_lengths (areas_of lent.now) g) }
 {
-    if fixed.len() != layout::FIXED_LENGTH {
+    if lent.fixed.len() != layout::FIXED_LENGTH {
         return false;
     }
-    durable::exact_lengths(fixed, marks, log, stored, tables, online, pool, g)
+    durable::exact_lengths(lent, g)
 }

@@ -1,28 +1,15 @@
 -- Laws of the fields and the sums.
-use Rattle.std.proofs.Common.{◌≡◌, ℕ, suc, ◌+◌, ◌-◌, ◌*◌, ◌%◌, ◌^◌, ◌<◌, ◌≤◌, Bool, true, false, List, ap, ◌∙◌, arith}
-use Rattle.word.specs.Word.{num}
+use Rattle.std.proofs.Common.{◌≡◌, ℕ, suc, ◌+◌, ◌-◌, ◌*◌, ◌%◌, ◌^◌, ◌<◌, ◌≤◌, Bool, List, ap, ◌∙◌, arith}
 use Rattle.wal.specs.declared.Sums.{Sums}
-use Rattle.wal.specs.Sum.{field, word_at, first_sum, paired, summed}
+use Rattle.wal.specs.Sum.{word_at, first_sum, paired, summed}
 
 -- a sum of three, wrapped at each step
 wrapped : (a x b : ℕ) → ((a + x) % 2 ^ 32 + b) % 2 ^ 32 ≡ (a + x + b) % 2 ^ 32
 wrapped a x b = omega arith
 
-pub pair_wrapped : (s : Sums) (x y u a v b : ℕ) → u ≡ (s.s0 + x) % 2 ^ 32 → a ≡ (u + s.s1) % 2 ^ 32 → v ≡ (s.s1 + y) % 2 ^ 32 → b ≡ (v + a) % 2 ^ 32 → record { s0 = a; s1 = b } ≡ paired s x y
+pub pair_wrapped : (s : Sums) (x y : ℕ) → record { s0 = ((s.s0 + x) % 2 ^ 32 + s.s1) % 2 ^ 32; s1 = ((s.s1 + y) % 2 ^ 32 + ((s.s0 + x) % 2 ^ 32 + s.s1) % 2 ^ 32) % 2 ^ 32 } ≡ paired s x y
 unfolding paired
-pair_wrapped s x y u a v b eu ea ev eb =
-    let ha : a ≡ first_sum s x = ea ∙ ap (λ (z : ℕ). (z + s.s1) % 2 ^ 32) eu ∙ wrapped s.s0 x s.s1 in
-    let hb : b ≡ (s.s1 + y + first_sum s x) % 2 ^ 32 = eb ∙ ap (λ (z : ℕ). (z + a) % 2 ^ 32) ev ∙ wrapped s.s1 y a ∙ ap (λ (z : ℕ). (s.s1 + y + z) % 2 ^ 32) ha in
-    λ i. record { s0 = ha i; s1 = hb i }
-
--- `word_at`
-pub word_big : (big : Bool) (l : List ℕ) (at r : ℕ) → big ≡ true → r ≡ field l at → r ≡ word_at big l at
-unfolding word_at
-word_big big l at r h e = rw h e
-
-pub word_small : (big : Bool) (l : List ℕ) (at r : ℕ) → big ≡ false → r ≡ num 4 l at → r ≡ word_at big l at
-unfolding word_at
-word_small big l at r h e = rw h e
+pair_wrapped s x y = rw (wrapped s.s0 x s.s1, wrapped s.s1 y (first_sum s x))
 
 -- `sum`: its start, a turn, its end
 pub sum_none : (big : Bool) (n : ℕ) (l : List ℕ) (at : ℕ) (s : Sums) → summed big (n - 0) l (at + 8 * 0) s ≡ summed big n l at s

@@ -1,12 +1,12 @@
 -- The header and the frames of a write-ahead log, and which of its frames are valid.
-use Rattle.std.specs.Prelude.{ℕ, zero, suc, ◌+◌, ◌/◌, Bool, true, false, cond, ◌&&◌, ◌||◌, List, [], ◌∷◌, length, take, drop, ◌==◌, nat_le}
+use Rattle.std.specs.Prelude.{ℕ, zero, suc, ◌+◌, ◌/◌, Bool, true, false, cond, ◌&&◌, ◌||◌, List, [], ◌∷◌, length, take, drop, ◌==◌, nat_le, Option, None, Some, Result, Ok, Err}
 use Rattle.wal.specs.declared.Sums.{Sums}
 use Rattle.wal.specs.declared.Header.{Header}
-use Rattle.wal.specs.declared.Opened.{Opened}
-use Rattle.wal.specs.declared.Opened.TheVariants.{Good, BadHeader, BadSum}
+use Rattle.wal.specs.declared.BadHeader.{BadHeader}
+use Rattle.wal.specs.declared.BadHeader.TheVariants.{Field, Sum}
 use Rattle.wal.specs.declared.Seen.{Seen}
-use Rattle.wal.specs.declared.Seen.TheVariants.{Valid, Stop}
-use Rattle.wal.specs.Sum.{field, no_sums, summed}
+use Rattle.word.specs.Big.{big as field}
+use Rattle.wal.specs.Sum.{no_sums, summed}
 
 -- 377f0682: the words are summed lowest byte first; 377f0683: highest byte first
 abbrev pub magic_of : Bool → ℕ
@@ -40,8 +40,8 @@ abbrev pub holds_sums : List ℕ → ℕ → Sums → Bool
 holds_sums l at s = field l at == s.s0 && field l (at + 4) == s.s1
 
 -- a file's header judged
-unfoldable pub opened : List ℕ → Opened
-opened l = cond (nat_le 32 (length l) && is_header l) (cond (holds_sums l 24 (head_in l).sums) (Good (head_in l)) BadSum) BadHeader
+unfoldable pub opened : List ℕ → Result Header BadHeader
+opened l = cond (nat_le 32 (length l) && is_header l) (cond (holds_sums l 24 (head_in l).sums) (Ok (head_in l)) (Err Sum)) (Err Field)
 
 -- how many bytes a frame has
 abbrev pub frame_size : Header → ℕ
@@ -55,9 +55,9 @@ frame_sums h s f = summed h.big (h.size / 8) f 24 (summed h.big 1 f 0 s)
 unfoldable pub is_valid : Header → Sums → List ℕ → Bool
 is_valid h s f = (field f 8 == h.salt1 && field f 12 == h.salt2) && holds_sums f 16 (frame_sums h s f)
 
--- a whole frame looked at, with the sums before it: its page number, its commit field and the sums after it, or that validity stops
-unfoldable pub seen : Header → Sums → List ℕ → Seen
-seen h s f = cond (is_valid h s f) (Valid (field f 0) (field f 4) (frame_sums h s f)) Stop
+-- a whole frame looked at, with the sums before it: its page number, its commit field and the sums after it; none where validity stops
+unfoldable pub seen : Header → Sums → List ℕ → Option Seen
+seen h s f = cond (is_valid h s f) (Some (record { page = field f 0; commit = field f 4; sums = frame_sums h s f })) None
 
 -- a valid frame: the page number, the commit field, where the page's image begins
 pub record Frame : Type 0 where

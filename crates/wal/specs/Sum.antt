@@ -1,17 +1,10 @@
 -- Numbers in SQLite's write-ahead log, and the running sums over it.
-use Rattle.std.specs.Prelude.{ℕ, zero, suc, ◌+◌, ◌*◌, ◌/◌, ◌%◌, ◌^◌, Bool, cond, List, [], ◌∷◌, ◌++◌, slice_index}
+use Rattle.std.specs.Prelude.{ℕ, zero, suc, ◌+◌, ◌%◌, ◌^◌, Bool, cond, List, [], ◌∷◌, ◌++◌}
 use Rattle.word.specs.Word.{num}
+use Rattle.word.specs.Big.{big as field, bytes_of}
 use Rattle.wal.specs.declared.Sums.{Sums}
 
--- a field: the number that four bytes hold, highest byte first
-unfoldable pub field : List ℕ → ℕ → ℕ
-field l at = slice_index l at * 16777216 + slice_index l (at + 1) * 65536 + slice_index l (at + 2) * 256 + slice_index l (at + 3)
-
--- the bytes of a field
-abbrev pub bytes_of : ℕ → List ℕ
-bytes_of v = v / 16777216 % 256 ∷ v / 65536 % 256 ∷ v / 256 % 256 ∷ v % 256 ∷ []
-
--- fields, one behind the other
+-- fields, one behind the other: each four bytes, highest byte first
 unfoldable pub fields_of : List ℕ → List ℕ
 fields_of [] = []
 fields_of (v ∷ vs) = bytes_of v ++ fields_of vs

@@ -3,7 +3,16 @@
 #![tactic(auto)]
 
 ghost use Rattle.std.specs.Prelude.{◌≡◌, ◌+◌, ◌*◌, ◌≤◌, length};
-ghost use Rattle.wal.specs.Sum.{field, word_at, paired, summed};
+ghost use Rattle.wal.specs.Sum.{word_at, paired, summed};
+
+use word::big;
+
+// The magic numbers, of words summed lowest byte first and highest byte first, and the version.
+pub const LITTLE_MAGIC: u32 = 931071618;
+
+pub const BIG_MAGIC: u32 = 931071619;
+
+pub const VERSION: u32 = 3007000;
 
 // The two running sums.
 #[derive(Clone, Copy)]
@@ -22,68 +31,57 @@ pub struct Header {
     pub sums: Sums,
 }
 
-// A file's header, judged.
-#[derive(Clone, Copy)]
-pub enum Opened {
-    Good(Header),
-    BadHeader,
-    BadSum,
+// What is wrong with a file's header: a field, or its sums.
+#[derive(Clone, Copy, Debug, PartialEq, Eq)]
+pub enum BadHeader {
+    Field,
+    Sum,
 }
 
-// A whole frame, looked at: page number, commit field and the sums after it; or validity stops here.
+// A valid frame, looked at: page number, commit field, and the sums after it.
 #[derive(Clone, Copy)]
-pub enum Seen {
-    Valid(u32, u32, Sums),
-    Stop,
-}
-
-// The field at a place.
-pub fn field_at(s: &[u8], at: usize) -> u32
-    requires { at + 4 ≤ length s.now }
-    ensures { result ≡ field s.now at }
-{
-    let a = word::wide(s[at]);
-    let b = word::wide(s[at + 1]);
-    let c = word::wide(s[at + 2]);
-    let d = word::wide(s[at + 3]);
-    (a * 16777216 + b * 65536 + c * 256 + d) as u32
+pub struct Seen {
+    pub page: u32,
+    pub commit: u32,
+    pub sums: Sums,
 }
 
 // The word at a place, in the byte order of the sums.
-#[tactic(auto, using(crate::proofs::Laws::word_big, crate::proofs::Laws::word_small))]
+#[tactic(auto, unfolding(crate::specs::Sum::word_at))]
 fn word_at(s: &[u8], at: usize, big: bool) -> u32
     requires { at + 4 ≤ length s.now }
     ensures { result ≡ word_at big s.now at }
 {
     if big {
-        return field_at(s, at);
+        big::load(s, at)
+    } else {
+        word::load(s, at, 4) as u32
     }
-    word::load(s, at, 4) as u32
 }
 
 impl Sums {
     // The sums with a pair of words.
+    #[tactic(auto, using(crate::proofs::Laws::pair_wrapped))]
     fn with_pair(self, x: u32, y: u32) -> Sums
         ensures { result ≡ paired self x y }
     {
-        let a = std::num::wrapping_add_u32(std::num::wrapping_add_u32(self.s0, x), self.s1);
-        let b = std::num::wrapping_add_u32(std::num::wrapping_add_u32(self.s1, y), a);
+        let a = self.s0.wrapping_add(x).wrapping_add(self.s1);
+        let b = self.s1.wrapping_add(y).wrapping_add(a);
         Sums { s0: a, s1: b }
     }
 }
 
 // The sums gone on over n pairs of words from a place.
+#[tactic(auto, using(crate::proofs::Laws::sum_none))]
 pub fn sum(s: &[u8], at: usize, n: usize, big: bool, from: Sums) -> Sums
     requires { at + 8 * n ≤ length s.now }
     ensures { result ≡ summed big n s.now at from }
 {
     let mut sums = from;
-    let mut i = 0;
-    while i < n {
+    for i in 0..n {
         let x = word_at(s, at + 8 * i, big);
         let y = word_at(s, at + 8 * i + 4, big);
         sums = sums.with_pair(x, y);
-        i += 1;
     }
     sums
 }

@@ -1,42 +1,39 @@
 // A log opened: its header, and a frame looked at.
 ghost use Rattle.std.specs.Prelude.{◌≡◌, ◌+◌, ◌≤◌, ◌&&◌, length, ◌==◌};
-ghost use Rattle.wal.specs.Sum.{field};
+ghost use Rattle.word.specs.Big.{big as field};
 ghost use Rattle.wal.specs.Layout.{is_page_size, is_header, head_in, holds_sums, opened, frame_size, frame_sums, seen};
 
-use crate::{Header, Opened, Seen, Sums};
+use crate::{BIG_MAGIC, BadHeader, Header, LITTLE_MAGIC, Seen, Sums, VERSION};
+use word::big;
 
+#[tactic(auto, unfolding(crate::specs::Layout::is_page_size))]
 fn is_page_size(n: u32) -> bool
     ensures { result ≡ is_page_size n }
 {
-    (n == 512)
-        | (n == 1024)
-        | (n == 2048)
-        | (n == 4096)
-        | (n == 8192)
-        | (n == 16384)
-        | (n == 32768)
-        | (n == 65536)
+    matches!(n, 512 | 1024 | 2048 | 4096 | 8192 | 16384 | 32768 | 65536)
 }
 
 // Magic number, version and page size.
+#[tactic(auto, unfolding(crate::specs::Layout::is_header))]
 fn is_header(file: &[u8]) -> bool
     requires { 32 ≤ length file.now }
     ensures { result ≡ is_header file.now }
 {
-    let magic = crate::field_at(file, 0);
-    let version = crate::field_at(file, 4);
-    let size = crate::field_at(file, 8);
-    ((magic == 931071618) | (magic == 931071619)) & (version == 3007000) & is_page_size(size)
+    let magic = big::load(file, 0);
+    let version = big::load(file, 4);
+    let size = big::load(file, 8);
+    (magic == LITTLE_MAGIC || magic == BIG_MAGIC) && version == VERSION && is_page_size(size)
 }
 
+#[tactic(auto, unfolding(crate::specs::Layout::head_in))]
 fn head_in(file: &[u8]) -> Header
     requires { 32 ≤ length file.now }
     ensures { result ≡ head_in file.now }
 {
-    let big = crate::field_at(file, 0) == 931071619;
-    let size = crate::field_at(file, 8) as usize;
-    let salt1 = crate::field_at(file, 16);
-    let salt2 = crate::field_at(file, 20);
+    let big = big::load(file, 0) == BIG_MAGIC;
+    let size = big::load(file, 8) as usize;
+    let salt1 = big::load(file, 16);
+    let salt2 = big::load(file, 20);
     let sums = crate::sum(file, 0, 3, big, Sums { s0: 0, s1: 0 });
     Header {
         big,
@@ -47,44 +44,33 @@ fn head_in(file: &[u8]) -> Header
     }
 }
 
-// Two fields hold these sums.
-fn holds_sums(s: &[u8], at: usize, sums: Sums) -> bool
+// Two fields, one behind the other, hold these numbers.
+fn holds_pair(s: &[u8], at: usize, v: u32, w: u32) -> bool
     requires { at + 8 ≤ length s.now }
-    ensures { result ≡ holds_sums s.now at sums }
+    ensures { result ≡ (field s.now at == v && field s.now (at + 4) == w) }
 {
-    let a = crate::field_at(s, at);
-    let b = crate::field_at(s, at + 4);
-    (a == sums.s0) & (b == sums.s1)
+    let a = big::load(s, at);
+    let b = big::load(s, at + 4);
+    a == v && b == w
 }
 
 // The header of any bytes, judged.
-pub fn open(file: &[u8]) -> Opened
+#[tactic(auto, unfolding(crate::specs::Layout::opened))]
+pub fn open(file: &[u8]) -> Result<Header, BadHeader>
     ensures { result ≡ opened file.now }
 {
-    if file.len() < 32 {
-        return Opened::BadHeader;
-    }
-    if !is_header(file) {
-        return Opened::BadHeader;
+    if file.len() < 32 || !is_header(file) {
+        return Err(BadHeader::Field);
     }
     let h = head_in(file);
-    if !holds_sums(file, 24, h.sums) {
-        return Opened::BadSum;
+    if !holds_pair(file, 24, h.sums.s0, h.sums.s1) {
+        return Err(BadHeader::Sum);
     }
-    Opened::Good(h)
-}
-
-// The frame's salts are the header's.
-fn holds_salts(f: &[u8], h: Header) -> bool
-    requires { 24 ≤ length f.now }
-    ensures { result ≡ (field f.now 8 == h.salt1 && field f.now 12 == h.salt2) }
-{
-    let a = crate::field_at(f, 8);
-    let b = crate::field_at(f, 12);
-    (a == h.salt1) & (b == h.salt2)
+    Ok(h)
 }
 
 // The sums gone on over a frame.
+#[tactic(auto, unfolding(crate::specs::Layout::frame_sums))]
 pub fn frame_sums(f: &[u8], h: Header, s: Sums) -> Sums
     requires { frame_size h ≤ length f.now }
     ensures { result ≡ frame_sums h s f.now }
@@ -93,17 +79,20 @@ pub fn frame_sums(f: &[u8], h: Header, s: Sums) -> Sums
     crate::sum(f, 24, h.size / 8, h.big, head)
 }
 
-// A whole frame, with the sums before it: salts first, then its sums.
-pub fn look(f: &[u8], h: Header, s: Sums) -> Seen
+// A whole frame, with the sums before it: salts first, then its sums. None where validity stops.
+#[tactic(auto, unfolding(crate::specs::Layout::is_valid, crate::specs::Layout::seen))]
+pub fn look(f: &[u8], h: Header, s: Sums) -> Option<Seen>
     requires { frame_size h ≤ length f.now }
     ensures { result ≡ seen h s f.now }
 {
-    if !holds_salts(f, h) {
-        return Seen::Stop;
+    if !holds_pair(f, 8, h.salt1, h.salt2) {
+        return None;
     }
-    let after = frame_sums(f, h, s);
-    if !holds_sums(f, 16, after) {
-        return Seen::Stop;
+    let sums = frame_sums(f, h, s);
+    if !holds_pair(f, 16, sums.s0, sums.s1) {
+        return None;
     }
-    Seen::Valid(crate::field_at(f, 0), crate::field_at(f, 4), after)
+    let page = big::load(f, 0);
+    let commit = big::load(f, 4);
+    Some(Seen { page, commit, sums })
 }

@@ -1,36 +1,27 @@
 // A log written: its header, and a frame's fields before its image.
 ghost use Rattle.std.specs.Prelude.{◌≡◌, ◌+◌, ◌<◌, ◌≤◌, [], ◌∷◌, ◌++◌, length, take, drop};
-ghost use Rattle.wal.specs.Sum.{bytes_of, fields_of};
+ghost use Rattle.wal.specs.Sum.{fields_of};
 ghost use Rattle.wal.specs.Layout.{magic_of, frame_size};
 ghost use Rattle.wal.specs.Written.{head_of, head_bytes, image_sums, frame_bytes};
 
-use crate::{Header, Sums};
-
-// A field at a place.
-fn put_field(s: &mut [u8], at: usize, v: u32)
-    requires { at + 4 ≤ length s.old }
-    ensures { s.new ≡ take at s.old ++ (bytes_of v ++ drop (at + 4) s.old) }
-{
-    s[at] = (v / 16777216 % 256) as u8;
-    s[at + 1] = (v / 65536 % 256) as u8;
-    s[at + 2] = (v / 256 % 256) as u8;
-    s[at + 3] = (v % 256) as u8;
-}
+use crate::{BIG_MAGIC, Header, LITTLE_MAGIC, Sums, VERSION};
+use word::big;
 
 // Two fields, one behind the other.
+#[tactic(auto, using(crate::proofs::Puts::pair_put))]
 fn put_pair(s: &mut [u8], at: usize, v: u32, w: u32)
     requires { at + 8 ≤ length s.old }
     ensures { s.new ≡ take at s.old ++ (fields_of (v ∷ w ∷ []) ++ drop (at + 8) s.old) }
 {
-    put_field(s, at, v);
-    put_field(s, at + 4, w);
+    big::store(s, at, v);
+    big::store(s, at + 4, w);
 }
 
 // The magic number of a byte order.
 fn magic_of(big: bool) -> u32
     ensures { result ≡ magic_of big }
 {
-    if big { 931071619 } else { 931071618 }
+    if big { BIG_MAGIC } else { LITTLE_MAGIC }
 }
 
 // The header at the front.
@@ -45,7 +36,7 @@ pub fn write_header(
     requires { 32 ≤ length s.old }
     ensures { (s.new ≡ head_bytes big size sequence salt1 salt2 ++ drop 32 s.old) × (result ≡ head_of big size sequence salt1 salt2) }
 {
-    put_pair(s, 0, magic_of(big), 3007000);
+    put_pair(s, 0, magic_of(big), VERSION);
     put_pair(s, 8, size, sequence);
     put_pair(s, 16, salt1, salt2);
     let sums = crate::sum(s, 0, 3, big, Sums { s0: 0, s1: 0 });

@@ -1,29 +1,24 @@
 -- The pass finds what the frames say: how many, where the last commit frame ends, where a page's last image begins.
-use Prim.Native.Nat.{ℕ, zero, suc, ◌+◌, ◌<◌}
+use Prim.Native.Nat.{ℕ, zero, suc, ◌+◌, ◌≤◌, ◌<◌}
 use native.Mathlib.Omega.{arith}
 use mathlib.Core.Path.{◌≡◌, refl, sym, ap, ◌∙◌}
 use mathlib.Core.Bool.{Bool, true, false, cond, not, ◌&&◌, ◌||◌}
 use mathlib.Core.List.{List, [], ◌∷◌}
 use lib.ListN.{length}
 use lib.Dec.{eqb, leb, ltb}
-use borrow.Author.Tests.{ltb-true, lt-ltb, eq-eqb, ne_eqb}
+use borrow.Author.Tests.{ltb-true, lt-ltb}
 use Rattle.word.proofs.Tests.{and_both, and_in}
 use Rattle.record.specs.Rows.{any}
 use Rattle.rules.specs.Sound.{every}
 use Rattle.wal.specs.declared.Sums.{Sums}
 use Rattle.wal.specs.declared.Header.{Header}
-use Rattle.wal.specs.Sum.{field}
 use Rattle.wal.specs.Layout.{Frame, frame_size, frame_sums, is_valid, frame_at, frames_from, opened, valid_frames}
-use Rattle.wal.specs.declared.Opened.{Opened}
-use Rattle.wal.specs.declared.Opened.TheVariants.{Good}
-use Rattle.rules.specs.declared.Bad.TheVariants.{Page}
-use Rattle.rules.specs.declared.Refusal.TheVariants.{Argument}
-use Rattle.rules.specs.Answers.{code_of}
+use Rattle.std.specs.Prelude.{Option, None, Some, Ok, unwrap_or}
+use Rattle.word.specs.Big.{big as field}
+use Rattle.wal.proofs.Opens.{good_parts, good_size}
 use Rattle.waljudge.specs.declared.Pass.{Pass}
-use Rattle.waljudge.specs.declared.Judged.{Judged}
-use Rattle.waljudge.specs.declared.Found.{Found}
 use Rattle.waljudge.specs.Pass.{started, taken, passed}
-use Rattle.waljudge.specs.Judge.{is_commit, is_of, up_to_commit, last_place, end_of, judged_by, judged, found_by, found_in}
+use Rattle.waljudge.specs.Judge.{is_commit, is_of, up_to_commit, last_place, end_of, judged_by, found_by}
 
 pub count_passed : (page size : ℕ) (fs : List Frame) (a : Pass) → (passed page size fs a).frames ≡ a.frames + length fs
 unfolding passed taken
@@ -54,45 +49,64 @@ unfolding any up_to_commit
 none_up [] h = refl
 none_up (f ∷ fs) h = rw h
 
-pub end_passed : (page size : ℕ) (fs : List Frame) (a : Pass) → (passed page size fs a).end ≡ cond (any is_commit fs) (last_place is_commit 0 fs + size) a.end
+pub end_passed : (page size : ℕ) (fs : List Frame) (a : Pass) → (passed page size fs a).end ≡ cond (any is_commit fs) (Some (last_place is_commit 0 fs + size)) a.end
 unfolding passed taken any last_place
 end_passed page size [] a = refl
 end_passed page size (f ∷ fs) a = end_passed page size fs (taken page size f a) ∙ go (eqb f.commit 0) (any is_commit fs) refl
   where
-    go : (x y : Bool) → any is_commit fs ≡ y → cond y (last_place is_commit 0 fs + size) (cond x a.end (f.place + size)) ≡ cond (not x || y) (last_place is_commit (cond (not x) f.place 0) fs + size) a.end
+    go : (x y : Bool) → any is_commit fs ≡ y → cond y (Some (last_place is_commit 0 fs + size)) (cond x a.end (Some (f.place + size))) ≡ cond (not x || y) (Some (last_place is_commit (cond (not x) f.place 0) fs + size)) a.end
     go true true e = refl
     go true false e = refl
-    go false true e = ap (λ (k : ℕ). k + size) (last_any is_commit fs 0 f.place e)
-    go false false e = sym (ap (λ (k : ℕ). k + size) (last_none is_commit fs f.place e))
+    go false true e = ap (λ (k : ℕ). Some (k + size)) (last_any is_commit fs 0 f.place e)
+    go false false e = sym (ap (λ (k : ℕ). Some (k + size)) (last_none is_commit fs f.place e))
 
-at_passed : (page size : ℕ) (fs : List Frame) (a : Pass) → (passed page size fs a).at ≡ cond (any is_commit fs) (last_place (is_of page) a.pending (up_to_commit fs)) a.at
-unfolding passed taken any last_place up_to_commit
+-- the place of the last of some that passes the test; other where none passes
+unfoldable last_of : (Frame → Bool) → Option ℕ → List Frame → Option ℕ
+last_of b other [] = other
+last_of b other (f ∷ fs) = last_of b (cond (b f) (Some f.place) other) fs
+
+last_is : (b : Frame → Bool) (fs : List Frame) (other : Option ℕ) (d : ℕ) → last_of b other fs ≡ cond (any b fs) (Some (last_place b d fs)) other
+unfolding last_of any last_place
+last_is b [] other d = refl
+last_is b (f ∷ fs) other d = last_is b fs (cond (b f) (Some f.place) other) (cond (b f) f.place d) ∙ go (b f) (any b fs) refl
+  where
+    go : (x y : Bool) → any b fs ≡ y → cond y (Some (last_place b (cond x f.place d) fs)) (cond x (Some f.place) other) ≡ cond (x || y) (Some (last_place b (cond x f.place d) fs)) other
+    go true true e = refl
+    go true false e = sym (ap Some (last_none b fs f.place e))
+    go false y e = refl
+
+at_passed : (page size : ℕ) (fs : List Frame) (a : Pass) → (passed page size fs a).at ≡ cond (any is_commit fs) (last_of (is_of page) a.pending (up_to_commit fs)) a.at
+unfolding passed taken any last_of up_to_commit
 at_passed page size [] a = refl
 at_passed page size (f ∷ fs) a = at_passed page size fs (taken page size f a) ∙ go (eqb f.commit 0) (any is_commit fs) refl
   where
-    pend : ℕ
-    pend = cond (eqb f.page page) f.place a.pending
+    pend : Option ℕ
+    pend = cond (eqb f.page page) (Some f.place) a.pending
 
-    go : (x y : Bool) → any is_commit fs ≡ y → cond y (last_place (is_of page) pend (up_to_commit fs)) (cond x a.at pend) ≡ cond (not x || y) (last_place (is_of page) a.pending (cond (not x || y) (f ∷ up_to_commit fs) [])) a.at
+    go : (x y : Bool) → any is_commit fs ≡ y → cond y (last_of (is_of page) pend (up_to_commit fs)) (cond x a.at pend) ≡ cond (not x || y) (last_of (is_of page) a.pending (cond (not x || y) (f ∷ up_to_commit fs) [])) a.at
     go true true e = refl
     go true false e = refl
     go false true e = refl
-    go false false e = sym (ap (λ (l : List Frame). last_place (is_of page) pend l) (none_up fs e))
+    go false false e = sym (ap (λ (l : List Frame). last_of (is_of page) pend l) (none_up fs e))
 
 -- what the calls answer
 pub frames_found : (page size : ℕ) (fs : List Frame) → (passed page size fs started).frames ≡ length fs
 frames_found page size fs = count_passed page size fs started ∙ omega arith
 
-pub end_found : (page size : ℕ) (fs : List Frame) → (passed page size fs started).end ≡ end_of size fs
-end_found page size fs = end_passed page size fs started
+pub end_found : (page size : ℕ) (fs : List Frame) → unwrap_or (passed page size fs started).end 0 ≡ end_of size fs
+end_found page size fs = ap (λ (x : Option ℕ). unwrap_or x 0) (end_passed page size fs started) ∙ go (any is_commit fs)
+  where
+    go : (y : Bool) → unwrap_or (cond y (Some (last_place is_commit 0 fs + size)) None) 0 ≡ cond y (last_place is_commit 0 fs + size) 0
+    go true = refl
+    go false = refl
 
-pub at_found : (page size : ℕ) (fs : List Frame) → (passed page size fs started).at ≡ last_place (is_of page) 0 (up_to_commit fs)
-unfolding last_place
+pub at_found : (page size : ℕ) (fs : List Frame) → (passed page size fs started).at ≡ cond (any (is_of page) (up_to_commit fs)) (Some (last_place (is_of page) 0 (up_to_commit fs))) None
+unfolding any
 at_found page size fs = at_passed page size fs started ∙ go (any is_commit fs) refl
   where
-    go : (y : Bool) → any is_commit fs ≡ y → cond y (last_place (is_of page) 0 (up_to_commit fs)) 0 ≡ last_place (is_of page) 0 (up_to_commit fs)
-    go true e = refl
-    go false e = sym (ap (λ (l : List Frame). last_place (is_of page) 0 l) (none_up fs e))
+    go : (y : Bool) → any is_commit fs ≡ y → cond y (last_of (is_of page) None (up_to_commit fs)) None ≡ cond (any (is_of page) (up_to_commit fs)) (Some (last_place (is_of page) 0 (up_to_commit fs))) None
+    go true e = last_is (is_of page) (up_to_commit fs) None 0
+    go false e = sym (ap (λ (l : List Frame). cond (any (is_of page) l) (Some (last_place (is_of page) 0 l)) None) (none_up fs e))
 
 -- no image begins at 0
 placed : Frame → Bool
@@ -138,39 +152,32 @@ none_found page x h l e z = go (any (is_of page) (up_to_commit (valid_frames h l
     go true k = absurd (omega (arith, last_some (is_of page) (up_to_commit (valid_frames h l)) 0 (up_placed (valid_frames h l) (framed_placed h l (length l) 32 h.sums)) k))
     go false k = k
 
-pub some_found : (page x : ℕ) (h : Header) (l : List ℕ) → x ≡ last_place (is_of page) 0 (up_to_commit (valid_frames h l)) → (x ≡ 0 → ⊥) → any (is_of page) (up_to_commit (valid_frames h l)) ≡ true
-some_found page x h l e z = go (any (is_of page) (up_to_commit (valid_frames h l))) refl
-  where
-    go : (y : Bool) → any (is_of page) (up_to_commit (valid_frames h l)) ≡ y → any (is_of page) (up_to_commit (valid_frames h l)) ≡ true
-    go true k = k
-    go false k = absurd (z (e ∙ last_none (is_of page) (up_to_commit (valid_frames h l)) 0 k))
-
 -- `judged_by`, `found_by`
-pub judged_as : (page : ℕ) (h : Header) (l : List ℕ) (a : Pass) → a ≡ passed page h.size (valid_frames h l) started → record { code = 0; frames = a.frames; end = a.end } ≡ judged_by l (Good h)
+pub good_ask : (l : List ℕ) (h : Header) → opened l ≡ Ok h → (32 ≤ length l) × (h.size ≤ 65536)
+good_ask l h e = ((good_parts l h e).0, (good_size l h e).1)
+
+pub judged_as : (page : ℕ) (h : Header) (l : List ℕ) (a : Pass) → a ≡ passed page h.size (valid_frames h l) started → record { code = 0; frames = a.frames; end = unwrap_or a.end 0 } ≡ judged_by l (Ok h)
 judged_as page h l a e =
     let n : a.frames ≡ length (valid_frames h l) = ap (λ (x : Pass). x.frames) e ∙ frames_found page h.size (valid_frames h l) in
-    let k : a.end ≡ end_of h.size (valid_frames h l) = ap (λ (x : Pass). x.end) e ∙ end_found page h.size (valid_frames h l) in
+    let k : unwrap_or a.end 0 ≡ end_of h.size (valid_frames h l) = ap (λ (x : Pass). unwrap_or x.end 0) e ∙ end_found page h.size (valid_frames h l) in
     λ i. record { code = 0; frames = n i; end = k i }
 
-pub found_none : (page : ℕ) (h : Header) (l : List ℕ) (a : Pass) → a ≡ passed page h.size (valid_frames h l) started → a.at ≡ 0 → record { code = 0; found = 0; at = a.at } ≡ found_by l page (Good h)
-found_none page h l a e z =
-    let k : a.at ≡ last_place (is_of page) 0 (up_to_commit (valid_frames h l)) = ap (λ (x : Pass). x.at) e ∙ at_found page h.size (valid_frames h l) in
-    rw (none_found page a.at h l k z) (λ i. record { code = 0; found = 0; at = k i })
+pub found_none : (page : ℕ) (h : Header) (l : List ℕ) (a : Pass) → a ≡ passed page h.size (valid_frames h l) started → a.at ≡ None → record { code = 0; found = 0; at = 0 } ≡ found_by l page (Ok h)
+found_none page h l a e z = go (any (is_of page) (up_to_commit (valid_frames h l))) refl (sym z ∙ ap (λ (x : Pass). x.at) e ∙ at_found page h.size (valid_frames h l))
+  where
+    place : ℕ
+    place = last_place (is_of page) 0 (up_to_commit (valid_frames h l))
 
-pub found_some : (page : ℕ) (h : Header) (l : List ℕ) (a : Pass) → a ≡ passed page h.size (valid_frames h l) started → (a.at ≡ 0 → ⊥) → record { code = 0; found = 1; at = a.at } ≡ found_by l page (Good h)
-found_some page h l a e z =
-    let k : a.at ≡ last_place (is_of page) 0 (up_to_commit (valid_frames h l)) = ap (λ (x : Pass). x.at) e ∙ at_found page h.size (valid_frames h l) in
-    rw (some_found page a.at h l k z) (λ i. record { code = 0; found = 1; at = k i })
+    go : (y : Bool) → any (is_of page) (up_to_commit (valid_frames h l)) ≡ y → None ≡ cond y (Some place) None → record { code = 0; found = 0; at = 0 } ≡ found_by l page (Ok h)
+    go true k f = cc
+    go false k f = rw (k, last_none (is_of page) (up_to_commit (valid_frames h l)) 0 k) refl
 
--- the calls, by what `open` answered
-pub judge_by : (l : List ℕ) (o o' : Opened) (r : Judged) → o ≡ opened l → o ≡ o' → r ≡ judged_by l o' → r ≡ judged l
-unfolding judged
-judge_by l o o' r e f k = k ∙ ap (λ (x : Opened). judged_by l x) (sym f ∙ e)
+pub found_some : (page x : ℕ) (h : Header) (l : List ℕ) (a : Pass) → a ≡ passed page h.size (valid_frames h l) started → a.at ≡ Some x → record { code = 0; found = 1; at = x } ≡ found_by l page (Ok h)
+found_some page x h l a e z = go (any (is_of page) (up_to_commit (valid_frames h l))) refl (sym z ∙ ap (λ (x : Pass). x.at) e ∙ at_found page h.size (valid_frames h l))
+  where
+    place : ℕ
+    place = last_place (is_of page) 0 (up_to_commit (valid_frames h l))
 
-pub find_by : (l : List ℕ) (page : ℕ) (o o' : Opened) (r : Found) → (page ≡ 0 → ⊥) → o ≡ opened l → o ≡ o' → r ≡ found_by l page o' → r ≡ found_in l page
-unfolding found_in
-find_by l page o o' r z e f k = rw (ne_eqb page 0 z) (k ∙ ap (λ (x : Opened). found_by l page x) (sym f ∙ e))
-
-pub find_zero : (l : List ℕ) (page n : ℕ) → page ≡ 0 → n ≡ code_of (Argument Page) → record { code = n; found = 0; at = 0 } ≡ found_in l page
-unfolding found_in
-find_zero l page n z e = rw (eq-eqb page 0 z) (λ i. record { code = e i; found = 0; at = 0 })
+    go : (y : Bool) → any (is_of page) (up_to_commit (valid_frames h l)) ≡ y → Some x ≡ cond y (Some place) None → record { code = 0; found = 1; at = x } ≡ found_by l page (Ok h)
+    go true k f = let g : x ≡ place = cc in rw (k, g) refl
+    go false k f = cc

@@ -1,11 +1,12 @@
 -- A log judged, and a page looked for in it.
-use Rattle.std.specs.Prelude.{ℕ, ◌+◌, Bool, cond, not, ◌||◌, List, [], ◌∷◌, length, eqb}
+use Rattle.std.specs.Prelude.{ℕ, ◌+◌, Bool, cond, not, ◌||◌, List, [], ◌∷◌, length, eqb, Result, Ok, Err}
 use Rattle.record.specs.Rows.{any}
 use Rattle.rules.specs.declared.Bad.TheVariants.{Page}
 use Rattle.rules.specs.declared.Refusal.TheVariants.{Argument}
 use Rattle.rules.specs.Answers.{code_of}
-use Rattle.wal.specs.declared.Opened.{Opened}
-use Rattle.wal.specs.declared.Opened.TheVariants.{Good, BadHeader, BadSum}
+use Rattle.wal.specs.declared.Header.{Header}
+use Rattle.wal.specs.declared.BadHeader.{BadHeader}
+use Rattle.wal.specs.declared.BadHeader.TheVariants.{Field, Sum}
 use Rattle.wal.specs.Layout.{Frame, opened, valid_frames}
 use Rattle.waljudge.specs.declared.Judged.{Judged}
 use Rattle.waljudge.specs.declared.Found.{Found}
@@ -32,31 +33,27 @@ abbrev pub end_of : ℕ → List Frame → ℕ
 end_of size fs = cond (any is_commit fs) (last_place is_commit 0 fs + size) 0
 
 -- 16 and 17 of the request
-abbrev pub bad_header : ℕ
-bad_header = 16
-
-abbrev pub bad_sum : ℕ
-bad_sum = 17
+abbrev pub bad_code : BadHeader → ℕ
+bad_code Field = 16
+bad_code Sum = 17
 
 -- "how many frames are valid … and where the last commit frame ends"
-abbrev pub judged_by : List ℕ → Opened → Judged
-judged_by l (Good h) = record { code = 0; frames = length (valid_frames h l); end = end_of h.size (valid_frames h l) }
-judged_by l BadHeader = record { code = bad_header; frames = 0; end = 0 }
-judged_by l BadSum = record { code = bad_sum; frames = 0; end = 0 }
+abbrev pub judged_by : List ℕ → Result Header BadHeader → Judged
+judged_by l (Ok h) = record { code = 0; frames = length (valid_frames h l); end = end_of h.size (valid_frames h l) }
+judged_by l (Err e) = record { code = bad_code e; frames = 0; end = 0 }
 
 unfoldable pub judged : List ℕ → Judged
 judged l = judged_by l (opened l)
 
 -- "where its last image up to that point begins, or that there is none"
-abbrev pub found_by : List ℕ → ℕ → Opened → Found
-found_by l page (Good h) =
+abbrev pub found_by : List ℕ → ℕ → Result Header BadHeader → Found
+found_by l page (Ok h) =
     record {
       code = 0;
       found = cond (any (is_of page) (up_to_commit (valid_frames h l))) 1 0;
       at = last_place (is_of page) 0 (up_to_commit (valid_frames h l));
     }
-found_by l page BadHeader = record { code = bad_header; found = 0; at = 0 }
-found_by l page BadSum = record { code = bad_sum; found = 0; at = 0 }
+found_by l page (Err e) = record { code = bad_code e; found = 0; at = 0 }
 
 -- "2 page asked 0"
 unfoldable pub found_in : List ℕ → ℕ → Found

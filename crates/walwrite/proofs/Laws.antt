@@ -1,99 +1,106 @@
 -- The list judged, an image put, the frames written one behind the other.
 use Prim.Native.Nat.{ℕ, zero, suc, ◌+◌, ◌*◌, ◌-◌, ◌≤◌, ◌<◌}
 use native.Mathlib.Omega.{arith}
-use native.Mathlib.Nat.{suc-mul, mul_comm, mul-le-mul, mul-le-mul_right}
+use native.Mathlib.Nat.{suc-mul}
 use native.Mathlib.Numerals.{add-one}
 use mathlib.Core.Path.{◌≡◌, refl, sym, ap, ◌∙◌}
-use mathlib.Core.Bool.{Bool, true, false, cond, not, ◌&&◌}
+use mathlib.Core.Bool.{Bool, true, false, cond, not, ◌&&◌, true≢false}
 use mathlib.Core.List.{List, [], ◌∷◌, ◌++◌, append_assoc, append-nil}
 use lib.ListN.{length, get_or, take, drop, length-append, length-drop, drop_of_length-le, take-append-drop}
 use lib.Seq.{drop-cons, take_at, drop_at, drop-drop, length-take-le}
 use lib.Dec.{eqb, leb, ltb}
-use borrow.Author.Tests.{lt-ltb, le-ltb, ltb-true, ltb-false, le-leb, lt-leb, leb-true, eqb-false, eq-eqb, ne_eqb}
+use borrow.Author.Tests.{ltb-true, ltb-false, lt-ltb, leb-true, eqb-false}
 use Rattle.word.proofs.Tests.{so, not_so}
 use Rattle.record.specs.Part.{with_part}
-use Rattle.record.specs.Rows.{row_at, rows, cons_if, keep}
+use Rattle.record.specs.Rows.{cons_if, keep}
+use Rattle.std.specs.Prelude.{Option, MatchOption, Ok, Err, Some, None, is_some, position}
+use Rattle.std.proofs.Math.Seq.{take-length}
+use Rattle.std.specs.List.{list_all, position_or_len}
+use Rattle.std.proofs.lemmas.List.{drop_more}
+use Rattle.std.proofs.lemmas.List.Quantifiers.{position-Some}
 use Rattle.record.proofs.Changes.{applied_keep}
-use Rattle.record.specs.Record.{page_of, committed, committed_on, chosen, apply, applied}
+use Rattle.record.proofs.Listed.{done_more}
+use Rattle.record.specs.Record.{online_width, on_page, committed, committed_on, chosen, apply, applied}
 use Rattle.rules.specs.declared.Bad.TheVariants.{Page, Parameter}
 use Rattle.rules.specs.declared.Refusal.TheVariants.{NotSound, Argument}
 use Rattle.rules.specs.declared.Reply.{Reply}
-use Rattle.rules.specs.Lent.{Lent, size_of, pages_of, count_of}
+use Rattle.rules.specs.Lent.{Lent, size_of, pages_of, count_of, online_of}
 use Rattle.rules.specs.Shape.{Shaped}
 use Rattle.rules.specs.Sound.{every, sound}
 use Rattle.rules.proofs.Every.{every_at}
+use Rattle.sound.proofs.Laws.{sound_shaped}
 use Rattle.wal.specs.declared.Sums.{Sums}
 use Rattle.wal.specs.declared.Header.{Header}
 use Rattle.wal.specs.Sum.{fields_of}
 use Rattle.wal.specs.Written.{head_fields, head_of, head_bytes, image_sums, frame_bytes, commit_before, frames_bytes, written}
-use Rattle.wal.proofs.Puts.{grow}
+use Rattle.word.specs.Big.{bytes_of}
+use Rattle.word.proofs.Bigs.{grow}
 use Rattle.walwrite.specs.declared.Why.{Why}
 use Rattle.walwrite.specs.declared.Why.TheVariants.{Store, ShortTarget, EmptyList}
-use Rattle.walwrite.specs.declared.Ruling.{Ruling}
-use Rattle.walwrite.specs.declared.Ruling.TheVariants.{Go, Refuse}
 use Rattle.walwrite.specs.Image.{image_in}
-use Rattle.walwrite.specs.Write.{code_of_why, listed, refuse_if, may_write, judge_write, log_of, settled, write_call}
+use Rattle.walwrite.specs.Write.{Ruling, code_of_why, listed, refuse_if, may_write, judge_write, log_of, settled, write_call}
 
 -- the rest of a list, from a place within it
 rest : (l : List ℕ) (i : ℕ) → i < length l → drop i l ≡ get_or l i 0 ∷ drop (i + 1) l
 rest l i h = drop-cons l i 0 h ∙ ap (λ (k : ℕ). get_or l i 0 ∷ drop k l) (sym (add-one i))
 
 -- `all_below`
-pub below_turn : (pages i : ℕ) (l : List ℕ) (t : Bool) → i < length l → get_or l i 0 < pages → listed pages (drop i l) ≡ t → listed pages (drop (i + 1) l) ≡ t
+pub all_every : (b : ℕ → Bool) (l : List ℕ) → list_all b l ≡ every b l
 unfolding every
-below_turn pages i l t h k inv = go (rw (rest l i h) at inv)
-  where
-    go : (ltb (get_or l i 0) pages && listed pages (drop (i + 1) l)) ≡ t → listed pages (drop (i + 1) l) ≡ t
-    go e = rw (lt-ltb (get_or l i 0) pages k) at e
+all_every b [] = refl
+all_every b (x ∷ l) = ap (λ (t : Bool). b x && t) (all_every b l)
 
-pub below_stop : (pages i : ℕ) (l : List ℕ) (t : Bool) → i < length l → pages ≤ get_or l i 0 → listed pages (drop i l) ≡ t → false ≡ t
-unfolding every
-below_stop pages i l t h k inv = go (rw (rest l i h) at inv)
-  where
-    go : (ltb (get_or l i 0) pages && listed pages (drop (i + 1) l)) ≡ t → false ≡ t
-    go e = rw (le-ltb (get_or l i 0) pages k) at e
+-- `next_of`: rows that fail a test are passed by, up to the end
+module _ (b t : List ℕ → Bool) (fails : (r : List ℕ) → t r ≡ false → b r ≡ false) where
+  kept_from : (l : List (List ℕ)) (i : ℕ) → i < length l → ((k : ℕ) → k < i → t (get_or l k []) ≡ false) → keep b l ≡ keep b (drop i l)
+  unfolding keep
+  kept_from [] i h n = absurd (omega arith)
+  kept_from (r ∷ l) zero h n = refl
+  kept_from (r ∷ l) (suc i) h n = rw (fails r (n 0 (omega arith))) (kept_from l i (omega arith) (λ k a. n (suc k) (omega arith)))
 
-pub below_done : (pages i : ℕ) (l : List ℕ) (t : Bool) → length l ≤ i → listed pages (drop i l) ≡ t → true ≡ t
-unfolding every
-below_done pages i l t h inv = rw (drop_of_length-le l h) at inv
+  kept_none : (l : List (List ℕ)) → (position_or_len t l < length l → ⊥) → keep b l ≡ []
+  unfolding keep
+  kept_none [] h = refl
+  kept_none (r ∷ l) h = pick (t r) refl (kept_none l) h
+    where
+      pick : (c : Bool) → t r ≡ c → ((position_or_len t l < length l → ⊥) → keep b l ≡ []) → (cond (not c) (1 + position_or_len t l) 0 < suc (length l) → ⊥) → cons_if (b r) r (keep b l) ≡ []
+      pick true e f h = absurd (h (omega arith))
+      pick false e f h = rw (fails r e) (f (λ m. h (omega arith)))
 
--- `next_of`: a row of another page is passed by, up to the end
-pub scan_turn : (p m i q : ℕ) (l : List ℕ) (k : List (List ℕ)) → i < m → q ≡ page_of (row_at 19 l i) → (q ≡ p → ⊥) → keep (committed_on p) (rows 19 (m - i) l i) ≡ k → keep (committed_on p) (rows 19 (m - (i + 1)) l (i + 1)) ≡ k
-unfolding rows keep
-scan_turn p m i q l k h e n inv =
-    let d : m - i ≡ suc (m - (i + 1)) = omega arith in
-    let f : eqb (page_of (row_at 19 l i)) p ≡ false = ne_eqb (page_of (row_at 19 l i)) p (λ (z : page_of (row_at 19 l i) ≡ p). n (e ∙ z)) in
-    sym (ap (λ (t : Bool). cons_if (t && committed (row_at 19 l i)) (row_at 19 l i) (keep (committed_on p) (rows 19 (m - (i + 1)) l (i + 1)))) f) ∙ (rw d at inv)
+  next : (l : List (List ℕ)) (r : Option ℕ) → r ≡ position t l → MatchOption r (keep b l ≡ []) (λ i. (i < length l) × (keep b l ≡ keep b (drop i l)))
+  next l None e = kept_none l (λ m. true≢false (ap is_some (at_place m) ∙ sym (ap is_some e)))
+    where
+      at_place : position_or_len t l < length l → Some (position_or_len t l) ≡ position t l
+      at_place m = rw (lt-ltb (position_or_len t l) (length l) m) refl
+  next l (Some i) e = let q = position-Some t l i [] (sym e) in (q.0, kept_from l i q.0 q.2)
 
--- `fold_page`: from its first row of the page on; a turn, its end
-pub fold_start : (p m i : ℕ) (l g : List ℕ) → keep (committed_on p) (rows 19 (m - i) l i) ≡ keep (committed_on p) (rows 19 (m - 0) l 0) → applied (keep (committed_on p) (rows 19 (m - i) l i)) g ≡ applied (keep (committed_on p) (rows 19 m l 0)) g
-fold_start p m i l g e =
-    let d : m - 0 ≡ m = omega arith in
-    ap (λ (k : List (List ℕ)). applied k g) e ∙ ap (λ (n : ℕ). applied (keep (committed_on p) (rows 19 n l 0)) g) d
+pub next_is : (p : ℕ) (l : List (List ℕ)) (r : Option ℕ) → r ≡ position (on_page p) l → MatchOption r (keep (committed_on p) l ≡ []) (λ i. (i < length l) × (keep (committed_on p) l ≡ keep (committed_on p) (drop i l)))
+next_is p = next (committed_on p) (on_page p) (λ r e. ap (λ (c : Bool). c && committed r) e)
 
-pub fold_more : (p m i j : ℕ) (l g g' t : List ℕ) → i < m → g' ≡ applied (keep (chosen true p) (rows 19 (i + 1 - i) l i)) g → keep (committed_on p) (rows 19 (m - j) l j) ≡ keep (committed_on p) (rows 19 (m - (i + 1)) l (i + 1)) → applied (keep (committed_on p) (rows 19 (m - i) l i)) g ≡ t → applied (keep (committed_on p) (rows 19 (m - j) l j)) g' ≡ t
-unfolding rows keep applied
-fold_more p m i j l g g' t h e f inv =
-    let d : m - i ≡ suc (m - (i + 1)) = omega arith in
+-- `fold`: the rows behind a place; a turn, its end
+pub behind : (k : ℕ) (l : List (List ℕ)) → take (length l - k) (drop k l) ≡ drop k l
+behind k l = rw (← length-drop k l) (take-length (drop k l))
+
+pub fold_turn : (p i : ℕ) (l : List (List ℕ)) (g g' t : List ℕ) → i < length l → keep (committed_on p) l ≡ keep (committed_on p) (drop i l) → g' ≡ applied (keep (chosen true p) (take (i + 1 - i) (drop i l))) g → applied (keep (committed_on p) l) g ≡ t → applied (keep (committed_on p) (drop (i + 1) l)) g' ≡ t
+unfolding keep applied
+fold_turn p i l g g' t h f e inv =
+    let r : List ℕ = get_or l i [] in
     let one : i + 1 - i ≡ 1 = omega arith in
-    let r : List ℕ = row_at 19 l i in
-    let after : List (List ℕ) = rows 19 (m - (i + 1)) l (i + 1) in
-    let s : g' ≡ cond (committed_on p r) (apply r g) g = e ∙ ap (λ (n : ℕ). applied (keep (committed_on p) (rows 19 n l i)) g) one ∙ applied_keep (committed_on p) r [] g in
-    ap (λ (k : List (List ℕ)). applied k g') f
-    ∙ ap (λ (x : List ℕ). applied (keep (committed_on p) after) x) s
-    ∙ sym (applied_keep (committed_on p) r after g)
-    ∙ (rw d at inv)
+    let row : take (i + 1 - i) (drop i l) ≡ r ∷ [] = ap (λ (n : ℕ). take n (drop i l)) one ∙ ap (take 1) (drop_more l i [] h) in
+    done_more applied apply (λ x. refl) (λ q k x. refl) (committed_on p) l i g g' t h
+    (e ∙ ap (λ (k : List (List ℕ)). applied (keep (committed_on p) k) g) row ∙ applied_keep (committed_on p) r [] g)
+    (ap (λ (k : List (List ℕ)). applied k g) (sym f) ∙ inv)
 
-pub fold_end : (p m i : ℕ) (l g t : List ℕ) → m ≤ i → applied (keep (committed_on p) (rows 19 (m - i) l i)) g ≡ t → g ≡ t
-unfolding rows keep applied
-fold_end p m i l g t h inv = let d : m - i ≡ 0 = omega arith in rw d at inv
+pub fold_done : (k : List (List ℕ)) (g t : List ℕ) → k ≡ [] → applied k g ≡ t → g ≡ t
+unfolding applied
+fold_done k g t e inv = rw e at inv
 
 -- `put_image`: the stored page, then its committed rows
-pub image_put : (stored online g₁ g₂ : List ℕ) (size m p : ℕ) → g₁ ≡ take (p * size + size - p * size) (drop (p * size) stored) → g₂ ≡ applied (keep (committed_on p) (rows 19 m online 0)) g₁ → g₂ ≡ image_in size stored online m p
+pub image_put : (stored g₁ g₂ : List ℕ) (online : List (List ℕ)) (size p : ℕ) → g₁ ≡ take (p * size + size - p * size) (drop (p * size) stored) → g₂ ≡ applied (keep (committed_on p) online) g₁ → g₂ ≡ image_in size stored online p
 unfolding image_in
-image_put stored online g₁ g₂ size m p e₁ e₂ =
+image_put stored g₁ g₂ online size p e₁ e₂ =
     let d : p * size + size - p * size ≡ size = omega arith in
-    e₂ ∙ ap (λ (x : List ℕ). applied (keep (committed_on p) (rows 19 m online 0)) x) e₁ ∙ ap (λ (k : ℕ). applied (keep (committed_on p) (rows 19 m online 0)) (take k (drop (p * size) stored))) d
+    e₂ ∙ ap (λ (x : List ℕ). applied (keep (committed_on p) online) x) e₁ ∙ ap (λ (k : ℕ). applied (keep (committed_on p) online) (take k (drop (p * size) stored))) d
 
 -- `write_frame`: what stands behind the 24 bytes of the fields is the image
 image_part : (f ys : List ℕ) → 24 ≤ length f → drop 24 (with_part 24 (length f - 24) f ys) ≡ ys
@@ -115,15 +122,9 @@ room_turn n i w at room h k =
     let k' : at + (n - (i + 1)) * w + w ≤ room = omega (arith, rw (e, suc-mul (n - (i + 1)) w) at k) in
     omega arith
 
-pub room_start : (n w room : ℕ) → 32 + n * w ≤ room → 32 + (n - 0) * w ≤ room
-room_start n w room h = let e : n - 0 ≡ n = omega arith in rw e h
-
--- a page listed is within the stored pages
-pub page_within : (l : List ℕ) (i size count stored : ℕ) → listed count l ≡ true → i < length l → stored ≡ size * count → (get_or l i 0 < count) × (get_or l i 0 * size + size ≤ stored)
-page_within l i size count stored h k e =
-    let b : get_or l i 0 < count = ltb-true (get_or l i 0) count (every_at (λ (p : ℕ). ltb p count) l i h k) in
-    let m : suc (get_or l i 0) * size ≤ count * size = mul-le-mul_right size b in
-    (b, omega (arith, suc-mul (get_or l i 0) size, mul_comm size count))
+-- a page listed is one of the pages
+pub page_below : (l : List ℕ) (i count : ℕ) → listed count l ≡ true → i < length l → get_or l i 0 < count
+page_below l i count h k = ltb-true (get_or l i 0) count (every_at (λ (p : ℕ). ltb p count) l i h k)
 
 -- the part that is lent for a frame
 pub lent_frame : (l : List ℕ) (at w : ℕ) → at + w ≤ length l → length (take (at + w - at) (drop at l)) ≡ w
@@ -132,13 +133,12 @@ lent_frame l at w h =
     let k : w ≤ length (drop at l) = omega (arith, length-drop at l) in
     ap (λ (x : ℕ). length (take x (drop at l))) d ∙ length-take-le w (drop at l) k
 
--- the commit field: the last frame's
-pub commit_as : (l : List ℕ) (i count c : ℕ) → i < length l → c ≡ cond (eqb (i + 1) (length l)) count 0 → c ≡ commit_before count (drop (i + 1) l)
-commit_as l i count c h e = go (drop (i + 1) l) (length-drop (i + 1) l)
-  where
-    go : (k : List ℕ) → length k ≡ length l - (i + 1) → c ≡ commit_before count k
-    go [] n = let z : i + 1 ≡ length l = omega arith in rw (eq-eqb (i + 1) (length l) z) at e
-    go (x ∷ k) n = rw (ne_eqb (i + 1) (length l) (λ (z : i + 1 ≡ length l). omega arith)) at e
+-- the commit field: the last frame's, the others'
+pub commit_last : (l : List ℕ) (i count c : ℕ) → i + 1 ≡ length l → c ≡ count → c ≡ commit_before count (drop (i + 1) l)
+commit_last l i count c n e = let k : length l ≤ i + 1 = omega arith in rw (drop_of_length-le l k) e
+
+pub commit_other : (l : List ℕ) (i count c : ℕ) → i < length l → (i + 1 ≡ length l → ⊥) → c ≡ 0 → c ≡ commit_before count (drop (i + 1) l)
+commit_other l i count c h n e = let k : i + 1 < length l = omega arith in rw (rest l (i + 1) k) e
 
 -- a frame more: t with ys in the place of the w bytes at a place
 module _ (t ys : List ℕ) (at w : ℕ) (n : length ys ≡ w) (h : at + w ≤ length t) where
@@ -172,11 +172,10 @@ module _ (t ys : List ℕ) (at w : ℕ) (n : length ys ≡ w) (h : at + w ≤ le
   put_behind t₀ e = put_drop ∙ sym (drop-drop w at t) ∙ ap (drop w) e ∙ drop-drop w at t₀
 
 -- `write_frames`: a turn, its end
-pub frames_turn : (h : Header) (image : ℕ → List ℕ) (count i at w c : ℕ) (l t ys u : List ℕ) (s r : Sums) → i < length l → at + w ≤ length t → length ys ≡ w → c ≡ cond (eqb (i + 1) (length l)) count 0 → (ys ≡ frame_bytes h s (get_or l i 0 + 1) c (image (get_or l i 0))) × (r ≡ image_sums h s (get_or l i 0 + 1) c (image (get_or l i 0))) → take at t ++ frames_bytes h image count (drop i l) s ≡ u → take (at + w) (with_part at (at + w - at) t ys) ++ frames_bytes h image count (drop (i + 1) l) r ≡ u
+pub frames_turn : (h : Header) (image : ℕ → List ℕ) (count i at w c : ℕ) (l t ys u : List ℕ) (s r : Sums) → i < length l → at + w ≤ length t → length ys ≡ w → c ≡ commit_before count (drop (i + 1) l) → (ys ≡ frame_bytes h s (get_or l i 0 + 1) c (image (get_or l i 0))) × (r ≡ image_sums h s (get_or l i 0 + 1) c (image (get_or l i 0))) → take at t ++ frames_bytes h image count (drop i l) s ≡ u → take (at + w) (with_part at (at + w - at) t ys) ++ frames_bytes h image count (drop (i + 1) l) r ≡ u
 unfolding frames_bytes
-frames_turn h image count i at w c l t ys u s r k room n ec did inv =
+frames_turn h image count i at w c l t ys u s r k room n e did inv =
     let p : ℕ = get_or l i 0 in
-    let e : c ≡ commit_before count (drop (i + 1) l) = commit_as l i count c k ec in
     let ey : ys ≡ frame_bytes h s (p + 1) (commit_before count (drop (i + 1) l)) (image p) = did.0 ∙ ap (λ (x : ℕ). frame_bytes h s (p + 1) x (image p)) e in
     let er : r ≡ image_sums h s (p + 1) (commit_before count (drop (i + 1) l)) (image p) = did.1 ∙ ap (λ (x : ℕ). image_sums h s (p + 1) x (image p)) e in
     let g : frames_bytes h image count (drop i l) s ≡ ys ++ frames_bytes h image count (drop (i + 1) l) r =
@@ -205,64 +204,26 @@ log_written head fs t t₁ t₂ n e₁ e₂ =
     grow 32 (length fs) t t₁ t₂ head fs n e₁ e₂ ∙ ap (λ (k : ℕ). (head ++ fs) ++ drop k t) (sym m)
 
 pub head_length : (big : Bool) (size sequence salt1 salt2 : ℕ) → length (head_bytes big size sequence salt1 salt2) ≡ 32
-unfolding head_bytes head_fields fields_of
+unfolding head_bytes head_fields fields_of bytes_of
 head_length big size sequence salt1 salt2 = refl
 
-pub log_as : (big : Bool) (size sequence salt1 salt2 count : ℕ) (image : ℕ → ℕ → List ℕ) (list t t₁ t₂ : List ℕ) (h : Header) → (t₁ ≡ head_bytes big size sequence salt1 salt2 ++ drop 32 t) × (h ≡ head_of big size sequence salt1 salt2) → t₂ ≡ take 32 t₁ ++ (frames_bytes h (image h.size) count list h.sums ++ drop (32 + length (frames_bytes h (image h.size) count list h.sums)) t₁) → t₂ ≡ written big size sequence salt1 salt2 (image size) count list ++ drop (length (written big size sequence salt1 salt2 (image size) count list)) t
-unfolding written head_of
+pub log_as : (big : Bool) (size sequence salt1 salt2 count : ℕ) (image : ℕ → List ℕ) (list t t₁ t₂ : List ℕ) (h : Header) → (t₁ ≡ head_bytes big size sequence salt1 salt2 ++ drop 32 t) × (h ≡ head_of big size sequence salt1 salt2) → t₂ ≡ take 32 t₁ ++ (frames_bytes h image count list h.sums ++ drop (32 + length (frames_bytes h image count list h.sums)) t₁) → t₂ ≡ written big size sequence salt1 salt2 image count list ++ drop (length (written big size sequence salt1 salt2 image count list)) t
+unfolding written
 log_as big size sequence salt1 salt2 count image list t t₁ t₂ h head e =
-    log_written (head_bytes big size sequence salt1 salt2) (frames_bytes (head_of big size sequence salt1 salt2) (image size) count list (head_of big size sequence salt1 salt2).sums) t t₁ t₂ (head_length big size sequence salt1 salt2) head.0
-    (e ∙ ap (λ (x : Header). take 32 t₁ ++ (frames_bytes x (image x.size) count list x.sums ++ drop (32 + length (frames_bytes x (image x.size) count list x.sums)) t₁)) head.1)
+    log_written (head_bytes big size sequence salt1 salt2) (frames_bytes (head_of big size sequence salt1 salt2) image count list (head_of big size sequence salt1 salt2).sums) t t₁ t₂ (head_length big size sequence salt1 salt2) head.0
+    (e ∙ ap (λ (x : Header). take 32 t₁ ++ (frames_bytes x image count list x.sums ++ drop (32 + length (frames_bytes x image count list x.sums)) t₁)) head.1)
 
 -- the header says the page size that it was given
 pub head_size : (big : Bool) (size sequence salt1 salt2 : ℕ) (h : Header) → h ≡ head_of big size sequence salt1 salt2 → h.size ≡ size
 unfolding head_of
 head_size big size sequence salt1 salt2 h e = ap (λ (x : Header). x.size) e
 
--- what `write_frames` asks for, of the target behind the header
-pub frames_ask : (n size count stored m online : ℕ) (l t t₁ : List ℕ) (h : Header) → h.size ≡ size → length t₁ ≡ length t → (32 + n * (24 + size) ≤ length t) × (listed count l ≡ true) × (count ≤ 1024) × (stored ≡ size * count) × (m * 19 ≤ online) × (size ≤ 4096) → (32 + n * (24 + h.size) ≤ length t₁) × (listed count l ≡ true) × (count ≤ 1024) × (stored ≡ h.size * count) × (m * 19 ≤ online) × (h.size ≤ 4096)
-frames_ask n size count stored m online l t t₁ h e k p = rw (e, k) p
-
--- `may_write`: the tests in their order
-pub write_page : (size pages room order : ℕ) (l : List ℕ) (b : Bool) → b ≡ listed pages l → not b ≡ true → Refuse (Store (Argument Page)) ≡ may_write size pages l room order
-unfolding may_write refuse_if
-write_page size pages room order l b e h = rw (not_so b (listed pages l) e h)
-
-pub write_order : (size pages room order : ℕ) (l : List ℕ) (b : Bool) → b ≡ listed pages l → not b ≡ false → 1 < order → Refuse (Store (Argument Parameter)) ≡ may_write size pages l room order
-unfolding may_write refuse_if
-write_order size pages room order l b e h k = rw (so b (listed pages l) e h, lt-leb order 1 k)
-
-pub write_many : (size pages room order : ℕ) (l : List ℕ) (b : Bool) → b ≡ listed pages l → not b ≡ false → order ≤ 1 → 4294967295 < length l → Refuse (Store (Argument Parameter)) ≡ may_write size pages l room order
-unfolding may_write refuse_if
-write_many size pages room order l b e h k m = rw (so b (listed pages l) e h, le-leb order 1 k, lt-leb (length l) 4294967295 m)
-
--- every test but the last two passed
-asked : (size pages room order : ℕ) (l : List ℕ) (b : Bool) → b ≡ listed pages l → not b ≡ false → order ≤ 1 → length l ≤ 4294967295 → may_write size pages l room order ≡ refuse_if (ltb room (32 + length l * (24 + size))) ShortTarget (refuse_if (eqb (length l) 0) EmptyList Go)
-unfolding may_write refuse_if
-asked size pages room order l b e h k m = rw (so b (listed pages l) e h, le-leb order 1 k, le-leb (length l) 4294967295 m)
-
-pub write_short : (size pages room order : ℕ) (l : List ℕ) (b : Bool) → b ≡ listed pages l → not b ≡ false → order ≤ 1 → length l ≤ 4294967295 → room < 32 + length l * (24 + size) → Refuse ShortTarget ≡ may_write size pages l room order
-unfolding refuse_if
-write_short size pages room order l b e h k m s = sym (asked size pages room order l b e h k m ∙ ap (λ (x : Bool). refuse_if x ShortTarget (refuse_if (eqb (length l) 0) EmptyList Go)) (lt-ltb room (32 + length l * (24 + size)) s))
-
-pub write_empty : (size pages room order : ℕ) (l : List ℕ) (b : Bool) → b ≡ listed pages l → not b ≡ false → order ≤ 1 → length l ≤ 4294967295 → 32 + length l * (24 + size) ≤ room → length l ≡ 0 → Refuse EmptyList ≡ may_write size pages l room order
-unfolding refuse_if
-write_empty size pages room order l b e h k m s z = sym (asked size pages room order l b e h k m ∙ (λ i. refuse_if (le-ltb room (32 + length l * (24 + size)) s i) ShortTarget (refuse_if (eq-eqb (length l) 0 z i) EmptyList Go)))
-
-pub write_go : (size pages room order : ℕ) (l : List ℕ) (b : Bool) → b ≡ listed pages l → not b ≡ false → order ≤ 1 → length l ≤ 4294967295 → 32 + length l * (24 + size) ≤ room → (length l ≡ 0 → ⊥) → Go ≡ may_write size pages l room order
-unfolding refuse_if
-write_go size pages room order l b e h k m s z = sym (asked size pages room order l b e h k m ∙ (λ i. refuse_if (le-ltb room (32 + length l * (24 + size)) s i) ShortTarget (refuse_if (ne_eqb (length l) 0 z i) EmptyList Go)))
-
--- the log's length fits
-pub room_fits : (n size : ℕ) → n ≤ 4294967295 → size ≤ 4096 → n * (24 + size) ≤ 4294967295 * 4120
-room_fits n size h k = mul-le-mul {n₁ = n} {m₁ = 24 + size} {n₂ = 4294967295} {m₂ = 4120} h (omega arith)
-
 -- what go says
-pub go_parts : (size pages room order : ℕ) (l : List ℕ) → may_write size pages l room order ≡ Go → (listed pages l ≡ true) × (length l ≤ 4294967295) × (32 + length l * (24 + size) ≤ room)
+pub go_parts : (size pages room order : ℕ) (l : List ℕ) → may_write size pages l room order ≡ (Ok tt) → (listed pages l ≡ true) × (length l ≤ 4294967295) × (32 + length l * (24 + size) ≤ room)
 unfolding may_write refuse_if
 go_parts size pages room order l = pick (listed pages l) (leb order 1) (leb (length l) 4294967295) (ltb room (32 + length l * (24 + size))) refl refl refl
   where
-    pick : (a b c d : Bool) → listed pages l ≡ a → leb (length l) 4294967295 ≡ c → ltb room (32 + length l * (24 + size)) ≡ d → refuse_if (not a) (Store (Argument Page)) (refuse_if (not (b && c)) (Store (Argument Parameter)) (refuse_if d ShortTarget (refuse_if (eqb (length l) 0) EmptyList Go))) ≡ Go → (listed pages l ≡ true) × (length l ≤ 4294967295) × (32 + length l * (24 + size) ≤ room)
+    pick : (a b c d : Bool) → listed pages l ≡ a → leb (length l) 4294967295 ≡ c → ltb room (32 + length l * (24 + size)) ≡ d → refuse_if (not a) (Store (Argument Page)) (refuse_if (not (b && c)) (Store (Argument Parameter)) (refuse_if d ShortTarget (refuse_if (eqb (length l) 0) EmptyList (Ok tt)))) ≡ (Ok tt) → (listed pages l ≡ true) × (length l ≤ 4294967295) × (32 + length l * (24 + size) ≤ room)
     pick false b c d ea ec ed k = let z : ◌≡◌ {A = ℕ} 0 1 = cc in absurd (omega arith)
     pick true false c d ea ec ed k = let z : ◌≡◌ {A = ℕ} 0 1 = cc in absurd (omega arith)
     pick true true false d ea ec ed k = let z : ◌≡◌ {A = ℕ} 0 1 = cc in absurd (omega arith)
@@ -274,11 +235,11 @@ some : (n : ℕ) → (n ≡ 0 → ⊥) → 1 ≤ n
 some zero f = absurd (f refl)
 some (suc n) f = omega arith
 
-pub go_some : (size pages room order : ℕ) (l : List ℕ) → may_write size pages l room order ≡ Go → 1 ≤ length l
+pub go_some : (size pages room order : ℕ) (l : List ℕ) → may_write size pages l room order ≡ (Ok tt) → 1 ≤ length l
 unfolding may_write refuse_if
 go_some size pages room order l = pick (listed pages l) (leb order 1 && leb (length l) 4294967295) (ltb room (32 + length l * (24 + size))) (eqb (length l) 0) refl
   where
-    pick : (a b c d : Bool) → eqb (length l) 0 ≡ d → refuse_if (not a) (Store (Argument Page)) (refuse_if (not b) (Store (Argument Parameter)) (refuse_if c ShortTarget (refuse_if d EmptyList Go))) ≡ Go → 1 ≤ length l
+    pick : (a b c d : Bool) → eqb (length l) 0 ≡ d → refuse_if (not a) (Store (Argument Page)) (refuse_if (not b) (Store (Argument Parameter)) (refuse_if c ShortTarget (refuse_if d EmptyList (Ok tt)))) ≡ (Ok tt) → 1 ≤ length l
     pick false b c d e k = let z : ◌≡◌ {A = ℕ} 0 1 = cc in absurd (omega arith)
     pick true false c d e k = let z : ◌≡◌ {A = ℕ} 0 1 = cc in absurd (omega arith)
     pick true true true d e k = let z : ◌≡◌ {A = ℕ} 0 1 = cc in absurd (omega arith)
@@ -286,7 +247,7 @@ go_some size pages room order l = pick (listed pages l) (leb order 1 && leb (len
     pick true true false false e k = some (length l) (eqb-false (length l) 0 e)
 
 -- `judge_write`
-pub judge_unsound : (s : Lent) (l : List ℕ) (room order : ℕ) (b : Bool) → b ≡ sound s → not b ≡ true → Refuse (Store NotSound) ≡ judge_write s l room order
+pub judge_unsound : (s : Lent) (l : List ℕ) (room order : ℕ) (b : Bool) → b ≡ sound s → not b ≡ true → Err (Store NotSound) ≡ judge_write s l room order
 unfolding judge_write refuse_if
 judge_unsound s l room order b e h = rw (not_so b (sound s) e h)
 
@@ -294,40 +255,43 @@ pub judge_sound : (s : Lent) (l : List ℕ) (room order : ℕ) (b : Bool) (v : R
 unfolding judge_write refuse_if
 judge_sound s l room order b v e h k = rw (so b (sound s) e h) k
 
-pub judged_go : (s : Lent) (l : List ℕ) (room order : ℕ) → judge_write s l room order ≡ Go → (sound s ≡ true) × (may_write (size_of s) (pages_of s) l room order ≡ Go)
+pub judged_go : (s : Lent) (l : List ℕ) (room order : ℕ) → judge_write s l room order ≡ (Ok tt) → (sound s ≡ true) × (may_write (size_of s) (pages_of s) l room order ≡ (Ok tt))
 unfolding judge_write refuse_if
 judged_go s l room order = pick (sound s) refl
   where
-    pick : (a : Bool) → sound s ≡ a → refuse_if (not a) (Store NotSound) (may_write (size_of s) (pages_of s) l room order) ≡ Go → (sound s ≡ true) × (may_write (size_of s) (pages_of s) l room order ≡ Go)
+    pick : (a : Bool) → sound s ≡ a → refuse_if (not a) (Store NotSound) (may_write (size_of s) (pages_of s) l room order) ≡ (Ok tt) → (sound s ≡ true) × (may_write (size_of s) (pages_of s) l room order ≡ (Ok tt))
     pick true e k = (e, k)
     pick false e k = let z : ◌≡◌ {A = ℕ} 0 1 = cc in absurd (omega arith)
 
--- what go and sound tables give to `write_log`, by the numbers that it is handed
-pub write_asks : (s : Lent) (size pages m room order : ℕ) (l : List ℕ) → Shaped s → size ≡ size_of s → pages ≡ pages_of s → m ≡ count_of s → may_write (size_of s) (pages_of s) l room order ≡ Go → (32 + length l * (24 + size) ≤ room) × (listed pages l ≡ true) × (pages ≤ 1024) × (length s.durable.stored ≡ size * pages) × (m * 19 ≤ length s.lost.online) × (size ≤ 4096)
-write_asks s size pages m room order l h es ep em go =
-    let p = go_parts (size_of s) (pages_of s) room order l go in
-    rw (es, ep, em) (p.2, p.0, h.sized.pages, h.sized.stored, omega (arith, h.count, h.sized.online), h.sized.size)
+pub went : (s : Lent) (l : List ℕ) (room order : ℕ) (v : Ruling) → v ≡ judge_write s l room order → v ≡ Ok tt → Shaped s × (may_write (size_of s) (pages_of s) l room order ≡ Ok tt)
+went s l room order v e f = let g = judged_go s l room order (sym e ∙ f) in (sound_shaped s g.0, g.1)
+
+-- what go and sound tables give, by the numbers that the call reads
+pub pages_fit : (s : Lent) (size pages : ℕ) → Shaped s → size ≡ size_of s → pages ≡ pages_of s → ((size ≤ 4096) × (pages ≤ 1024)) × (length s.durable.stored ≡ size * pages)
+pages_fit s size pages h es ep = rw (es, ep) ((h.sized.size, h.sized.pages), h.sized.stored)
+
+pub rows_fit : (s : Lent) (m : ℕ) → Shaped s → m ≡ count_of s → m * online_width ≤ length s.lost.online
+rows_fit s m h em = rw em (omega (arith, h.count, h.sized.online))
+
+pub write_asks : (size pages size' pages' room order : ℕ) (l : List ℕ) → size ≡ size' → pages ≡ pages' → may_write size' pages' l room order ≡ (Ok tt) → (32 + length l * (24 + size) ≤ room) × (listed pages l ≡ true)
+write_asks size pages size' pages' room order l es ep go =
+    let p = go_parts size' pages' room order l go in
+    rw (es, ep) (p.2, p.0)
 
 -- the call: refused, and done
-abbrev refused_as : Why → Reply
-refused_as w = record { code = code_of_why w; note = 0; reads = 0; writes = 0; logs = 0 }
-
-pub refused_same : (why w : Why) (r : Reply) → why ≡ w → r ≡ refused_as w → r ≡ refused_as why
-refused_same why w r e k = k ∙ ap refused_as (sym e)
-
-pub write_refused : (s : Lent) (l t : List ℕ) (a b q order : ℕ) (v : Ruling) (w : Why) (r : Reply) → v ≡ judge_write s l (length t) order → v ≡ Refuse w → r ≡ refused_as w → record { reply = r; target = t } ≡ write_call s l t a b q order
+pub write_refused : (s : Lent) (l t : List ℕ) (a b q order : ℕ) (v : Ruling) (w : Why) (n : ℕ) → v ≡ judge_write s l (length t) order → v ≡ Err w → n ≡ code_of_why w → record { reply = record { code = n; note = 0; reads = 0; writes = 0; logs = 0 }; target = t } ≡ write_call s l t a b q order
 unfolding write_call
-write_refused s l t a b q order v w r e f k =
-    let g : judge_write s l (length t) order ≡ Refuse w = sym e ∙ f in
-    (λ i. record { reply = k i; target = t }) ∙ ap (λ (x : Ruling). settled x l t (log_of s l a b q order)) (sym g)
+write_refused s l t a b q order v w n e f k =
+    let g : judge_write s l (length t) order ≡ Err w = sym e ∙ f in
+    (λ i. record { reply = record { code = k i; note = 0; reads = 0; writes = 0; logs = 0 }; target = t }) ∙ ap (λ (x : Ruling). settled x l t (log_of s l a b q order)) (sym g)
 
-pub write_done : (s : Lent) (l t t' : List ℕ) (a b q order size pages m : ℕ) → judge_write s l (length t) order ≡ Go → size ≡ size_of s → pages ≡ pages_of s → m ≡ count_of s
-    → t' ≡ written (eqb order 1) size q a b (image_in size s.durable.stored s.lost.online m) pages l ++ drop (length (written (eqb order 1) size q a b (image_in size s.durable.stored s.lost.online m) pages l)) t
-    → record { reply = record { code = 0; note = 0; reads = length l; writes = 0; logs = 0 }; target = t' } ≡ write_call s l t a b q order
+pub write_done : (s : Lent) (l t t' : List ℕ) (a b q order size pages : ℕ) (online : List (List ℕ)) (r : Reply) → judge_write s l (length t) order ≡ Ok tt → r ≡ record { code = 0; note = 0; reads = length l; writes = 0; logs = 0 } → size ≡ size_of s → pages ≡ pages_of s → online ≡ online_of s
+    → t' ≡ written (eqb order 1) size q a b (image_in size s.durable.stored online) pages l ++ drop (length (written (eqb order 1) size q a b (image_in size s.durable.stored online) pages l)) t
+    → record { reply = r; target = t' } ≡ write_call s l t a b q order
 unfolding write_call
-write_done s l t t' a b q order size pages m g es ep em e =
-    let w : written (eqb order 1) size q a b (image_in size s.durable.stored s.lost.online m) pages l ≡ log_of s l a b q order =
-    λ i. written (eqb order 1) (es i) q a b (image_in (es i) s.durable.stored s.lost.online (em i)) (ep i) l
+write_done s l t t' a b q order size pages online r g er es ep em e =
+    let w : written (eqb order 1) size q a b (image_in size s.durable.stored online) pages l ≡ log_of s l a b q order =
+    λ i. written (eqb order 1) (es i) q a b (image_in (es i) s.durable.stored (em i)) (ep i) l
     in
-    (λ i. record { reply = record { code = 0; note = 0; reads = length l; writes = 0; logs = 0 }; target = (e ∙ ap (λ (x : List ℕ). x ++ drop (length x) t) w) i })
+    (λ i. record { reply = er i; target = (e ∙ ap (λ (x : List ℕ). x ++ drop (length x) t) w) i })
     ∙ ap (λ (x : Ruling). settled x l t (log_of s l a b q order)) (sym g)

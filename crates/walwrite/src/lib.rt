@@ -2,240 +2,181 @@
 // in the lent target. The store is only read: no frame bytes, no page-sized copy. A refusal leaves the target as it was.
 #![tactic(auto)]
 
-ghost use Rattle.std.specs.Prelude.{◌≡◌, true, cond, ◌++◌, ◌+◌, ◌*◌, ◌-◌, ◌≤◌, ◌<◌, length, take, drop};
+ghost use Rattle.std.specs.Prelude.{◌≡◌, ℕ, true, [], ◌++◌, ◌+◌, ◌*◌, ◌-◌, ◌≤◌, ◌<◌, length, take, drop, MatchOption};
 ghost use Rattle.record.specs.Rows.{rows, keep};
-ghost use Rattle.record.specs.Record.{committed_on, applied};
-ghost use Rattle.rules.specs.Areas.{areas};
+ghost use Rattle.record.specs.Record.{online_width, committed_on, applied};
+ghost use Rattle.rules.specs.Areas.{areas, areas_of};
 ghost use Rattle.wal.specs.Layout.{frame_size};
 ghost use Rattle.wal.specs.Written.{image_sums, frame_bytes, frames_bytes, written};
 ghost use Rattle.walwrite.specs.Image.{image_in};
+ghost use Rattle.walwrite.specs.declared.Why.TheVariants.{Store};
 ghost use Rattle.walwrite.specs.Write.{code_of_why, listed, may_write, judge_write, write_call};
 
 use number::PageNo;
-use rules::{Answer, Bad, Refusal, Reply};
+use record::row;
+use record::row::OnlineRow;
+use rules::{Answer, Areas, Bad, Counts, Refusal, Reply};
 use wal::{Header, Sums};
 
 // Why no log is written, in the order in which it is judged.
-#[derive(Clone, Copy)]
+#[derive(Clone, Copy, Debug, PartialEq, Eq)]
 pub enum Why {
     Store(Refusal),
     ShortTarget,
     EmptyList,
 }
 
-// What judging says.
-#[derive(Clone, Copy)]
-pub enum Ruling {
-    Go,
-    Refuse(Why),
+impl From<Refusal> for Why {
+    ghost from_gives = { λ r w. w ≡ Store r };
+
+    fn from(r: Refusal) -> Why {
+        Why::Store(r)
+    }
+}
+
+fn code_of(why: Why) -> u32
+    ensures { result ≡ code_of_why why }
+{
+    match why {
+        Why::Store(r) => u32::from(r.number()),
+        Why::ShortTarget => 14,
+        Why::EmptyList => 15,
+    }
 }
 
 // Every page listed is below the pages.
 fn all_below(list: &[u32], pages: u32) -> bool
     ensures { result ≡ listed pages list.now }
 {
-    let mut i = 0;
-    while i < list.len() {
-        if pages <= list[i] {
-            return false;
-        }
-        i += 1;
-    }
-    true
+    list.iter().all(|p| *p < pages)
 }
 
 // The refusals after soundness.
-#[tactic(auto, using(crate::proofs::Laws::write_page, crate::proofs::Laws::write_order, crate::proofs::Laws::write_many, crate::proofs::Laws::write_short, crate::proofs::Laws::write_empty, crate::proofs::Laws::write_go))]
-fn may_write(size: usize, pages: u32, list: &[u32], room: usize, order: u32) -> Ruling
+#[tactic(auto, unfolding(crate::specs::Write::may_write, crate::specs::Write::refuse_if))]
+fn may_write(size: usize, pages: u32, list: &[u32], room: usize, order: u32) -> Result<(), Why>
     requires { size ≤ 4096 }
     ensures { result ≡ may_write size pages list.now room order }
 {
     if !all_below(list, pages) {
-        return Ruling::Refuse(Why::Store(Refusal::Argument(Bad::Page)));
+        return Err(Refusal::Argument(Bad::Page).into());
     }
     if 1 < order {
-        return Ruling::Refuse(Why::Store(Refusal::Argument(Bad::Parameter)));
+        return Err(Refusal::Argument(Bad::Parameter).into());
     }
     let n = list.len();
     if 4294967295 < n {
-        return Ruling::Refuse(Why::Store(Refusal::Argument(Bad::Parameter)));
+        return Err(Refusal::Argument(Bad::Parameter).into());
     }
     if room < 32 + n * (24 + size) {
-        return Ruling::Refuse(Why::ShortTarget);
+        return Err(Why::ShortTarget);
     }
     if n == 0 {
-        return Ruling::Refuse(Why::EmptyList);
+        return Err(Why::EmptyList);
     }
-    Ruling::Go
+    Ok(())
 }
 
-fn judge_write(
-    fixed: &[u8],
-    marks: &[u8],
-    log: &[u8],
-    stored: &[u8],
-    tables: &[u8],
-    online: &[u8],
-    pool: &[u8],
-    list: &[u32],
-    room: usize,
-    order: u32,
-) -> Ruling
-    ensures { result ≡ judge_write (areas fixed.now marks.now log.now stored.now tables.now online.now pool.now) list.now room order }
+fn judge_write(lent: &Areas<'_>, list: &[u32], room: usize, order: u32) -> Result<(), Why>
+    ensures { result ≡ judge_write (areas_of lent.now) list.now room order }
 {
-    if !sound::is_sound(fixed, marks, log, stored, tables, online, pool) {
-        return Ruling::Refuse(Why::Store(Refusal::NotSound));
+    if !sound::is_sound(lent) {
+        return Err(Refusal::NotSound.into());
     }
-    let given = layout::params_of(fixed);
+    let given = layout::params_of(lent.fixed);
     may_write(given.size as usize, given.pages as u32, list, room, order)
 }
 
-// The first row of page p from a row on; m where there is none. Most rows are of other pages: this loop passes them by.
-fn next_of(online: &[u8], from: usize, m: usize, p: PageNo) -> usize
-    requires { (m * 19 ≤ length online.now) × (from ≤ m) }
-    ensures { (result ≤ m) × (from ≤ result) × (keep (committed_on p.0) (rows 19 (m - result) online.now result) ≡ keep (committed_on p.0) (rows 19 (m - from) online.now from)) }
+// The pages as they are read: their size and count, the stored pages, and the rows of the online table.
+#[derive(Clone, Copy)]
+struct Pages<'a> {
+    size: usize,
+    count: u32,
+    stored: &'a [u8],
+    online: &'a [OnlineRow],
+    ghost small: { (size ≤ 4096) × (count ≤ 1024) },
+    ghost all_stored: { length stored.now ≡ size * count },
+}
+
+// The first row of page p. Most rows are of other pages: this loop passes them by.
+fn next_of(online: &[OnlineRow], p: PageNo) -> Option<usize>
+    ensures { MatchOption result (keep (committed_on p.0) online.now ≡ []) (λ i. (i < length online.now) × (keep (committed_on p.0) online.now ≡ keep (committed_on p.0) (drop i online.now))) }
 {
-    let mut i = from;
-    while i < m {
-        let q = record::page_of(online, 19, i);
-        if q.0 == p.0 {
-            return i;
-        }
-        i += 1;
-    }
-    i
+    online.iter().position(|row| row::page_of(row) == p)
 }
 
 // The page g with its committed rows applied in table order.
-fn fold_page(online: &[u8], m: usize, p: PageNo, g: &mut [u8])
-    requires { m * 19 ≤ length online.now }
-    ensures { g.new ≡ applied (keep (committed_on p.0) (rows 19 m online.now 0)) g.old }
+fn fold(online: &[OnlineRow], p: PageNo, g: &mut [u8])
+    ensures { g.new ≡ applied (keep (committed_on p.0) online.now) g.old }
 {
-    let mut i = next_of(online, 0, m, p);
-    while i < m {
-        apply::fold(online, i, i + 1, p, true, g);
-        i = next_of(online, i + 1, m, p);
+    let mut rest = online;
+    while let Some(i) = next_of(rest, p) {
+        apply::fold(&rest[i..i + 1], p, true, g);
+        rest = &rest[i + 1..];
     }
 }
 
-// A page's image in its place: the stored page with its committed online records applied in table order.
-fn put_image(g: &mut [u8], stored: &[u8], size: usize, p: PageNo, online: &[u8], m: usize)
-    requires { (length g.old ≡ size) × (p.0 * size + size ≤ length stored.now) × (m * 19 ≤ length online.now) }
-    ensures { g.new ≡ image_in size stored.now online.now m p.0 }
-{
-    let a = p.0 * size;
-    let e = a + size;
-    fill::copy(g, &stored[a..e]);
-    fold_page(online, m, p, g);
+impl Pages<'_> {
+    // A page's image in its place: the stored page with its committed online records applied in table order.
+    #[tactic(auto, using(crate::proofs::Laws::image_put))]
+    fn put_image(&self, p: PageNo, g: &mut [u8])
+        requires { (length g.old ≡ self.now.size) × (p.0 < self.now.count) }
+        ensures { g.new ≡ image_in self.now.size self.now.stored.now self.now.online.now p.0 }
+    {
+        let a = p.0 * self.size;
+        let e = a + self.size;
+        fill::copy(g, &self.stored[a..e]);
+        fold(self.online, p, g);
+    }
 }
 
 // The frame of a page, numbered from 1 there; the sums gone on over it.
-fn write_frame(
-    f: &mut [u8],
-    h: Header,
-    s: Sums,
-    stored: &[u8],
-    online: &[u8],
-    m: usize,
-    p: PageNo,
-    commit: u32,
-) -> Sums
-    requires { (length f.old ≡ frame_size h) × (p.0 < 1024) × (p.0 * h.size + h.size ≤ length stored.now) × (m * 19 ≤ length online.now) }
-    ensures { (f.new ≡ frame_bytes h s (p.0 + 1) commit (image_in h.size stored.now online.now m p.0)) × (result ≡ image_sums h s (p.0 + 1) commit (image_in h.size stored.now online.now m p.0)) }
+fn write_frame(f: &mut [u8], h: Header, s: Sums, pages: &Pages, p: PageNo, commit: u32) -> Sums
+    requires { (length f.old ≡ frame_size h) × (h.size ≡ pages.now.size) × (p.0 < pages.now.count) }
+    ensures { (f.new ≡ frame_bytes h s (p.0 + 1) commit (image_in pages.now.size pages.now.stored.now pages.now.online.now p.0)) × (result ≡ image_sums h s (p.0 + 1) commit (image_in pages.now.size pages.now.stored.now pages.now.online.now p.0)) }
 {
-    let size = h.size;
-    put_image(&mut f[24..], stored, size, p, online, m);
+    pages.put_image(p, &mut f[24..]);
     wal::write::write_fields(f, h, s, p.0 as u32 + 1, commit)
 }
 
-// The commit field: the page count in the last frame.
-fn commit_of(last: bool, count: u32) -> u32
-    ensures { result ≡ cond last count 0 }
+// The frames behind the header; the last one's commit field is the page count.
+fn write_frames(target: &mut [u8], h: Header, pages: &Pages, list: &[u32])
+    requires { (32 + length list.now * (24 + pages.now.size) ≤ length target.old) × (h.size ≡ pages.now.size) × (listed pages.now.count list.now ≡ true) }
+    ensures { target.new ≡ take 32 target.old ++ (frames_bytes h (image_in pages.now.size pages.now.stored.now pages.now.online.now) pages.now.count list.now h.sums ++ drop (32 + length (frames_bytes h (image_in pages.now.size pages.now.stored.now pages.now.online.now) pages.now.count list.now h.sums)) target.old) }
 {
-    if last {
-        return count;
-    }
-    0
-}
-
-// The frames behind the header.
-fn write_frames(
-    target: &mut [u8],
-    h: Header,
-    stored: &[u8],
-    online: &[u8],
-    m: usize,
-    list: &[u32],
-    count: u32,
-)
-    requires { (32 + length list.now * (24 + h.size) ≤ length target.old) × (listed count list.now ≡ true) × (count ≤ 1024) × (length stored.now ≡ h.size * count) × (m * 19 ≤ length online.now) × (h.size ≤ 4096) }
-    ensures { target.new ≡ take 32 target.old ++ (frames_bytes h (image_in h.size stored.now online.now m) count list.now h.sums ++ drop (32 + length (frames_bytes h (image_in h.size stored.now online.now m) count list.now h.sums)) target.old) }
-{
-    let w = 24 + h.size;
+    let w = 24 + pages.size;
     let n = list.len();
     let mut at = 32;
     let mut sums = h.sums;
-    let mut i = 0;
-    while i < n {
+    for (i, p) in list.iter().enumerate() {
         let e = at + w;
-        let p = list[i] as usize;
-        let commit = commit_of(i + 1 == n, count);
+        let commit = if i + 1 == n { pages.count } else { 0 };
         sums = write_frame(
             &mut target[at..e],
             h,
             sums,
-            stored,
-            online,
-            m,
-            PageNo(p),
+            pages,
+            PageNo(*p as usize),
             commit,
         );
         at = e;
-        i += 1;
     }
 }
 
 // The log in the target: header, then frames.
 fn write_log(
     target: &mut [u8],
-    stored: &[u8],
-    online: &[u8],
-    m: usize,
-    size: u32,
-    count: u32,
+    pages: &Pages,
     list: &[u32],
     salt1: u32,
     salt2: u32,
     sequence: u32,
     big: bool,
 )
-    requires { (32 + length list.now * (24 + size) ≤ length target.old) × (listed count list.now ≡ true) × (count ≤ 1024) × (length stored.now ≡ size * count) × (m * 19 ≤ length online.now) × (size ≤ 4096) }
-    ensures { target.new ≡ written big size sequence salt1 salt2 (image_in size stored.now online.now m) count list.now ++ drop (length (written big size sequence salt1 salt2 (image_in size stored.now online.now m) count list.now)) target.old }
+    requires { (32 + length list.now * (24 + pages.now.size) ≤ length target.old) × (listed pages.now.count list.now ≡ true) }
+    ensures { target.new ≡ written big pages.now.size sequence salt1 salt2 (image_in pages.now.size pages.now.stored.now pages.now.online.now) pages.now.count list.now ++ drop (length (written big pages.now.size sequence salt1 salt2 (image_in pages.now.size pages.now.stored.now pages.now.online.now) pages.now.count list.now)) target.old }
 {
-    let h = wal::write::write_header(target, big, size, sequence, salt1, salt2);
-    write_frames(target, h, stored, online, m, list, count);
-}
-
-fn refused(why: Why) -> Reply
-    ensures { result ≡ record { code = code_of_why why; note = 0; reads = 0; writes = 0; logs = 0 } }
-{
-    match why {
-        Why::Store(r) => rules::answered(Answer::Refused(r)),
-        Why::ShortTarget => Reply {
-            code: 14,
-            note: 0,
-            reads: 0,
-            writes: 0,
-            logs: 0,
-        },
-        Why::EmptyList => Reply {
-            code: 15,
-            note: 0,
-            reads: 0,
-            writes: 0,
-            logs: 0,
-        },
-    }
+    let h = wal::write::write_header(target, big, pages.size as u32, sequence, salt1, salt2);
+    write_frames(target, h, pages, list);
 }
 
 // Writes the log of the listed pages (from 0 here, from 1 there) to the front of the target.
@@ -257,34 +198,38 @@ pub fn ventarico_wal_write(
     ensures { record { reply = result; target = target.new } ≡ write_call (areas fixed.now marks.now log.now stored.now tables.now online.now pool.now) list.now target.old salt_1 salt_2 sequence order }
 {
     let room = target.len();
-    let v = judge_write(
-        fixed, marks, log, stored, tables, online, pool, list, room, order,
-    );
-    match v {
-        Ruling::Refuse(why) => refused(why),
-        Ruling::Go => {
+    let lent = Areas {
+        fixed,
+        marks,
+        log,
+        stored,
+        tables,
+        online,
+        pool,
+    };
+    match judge_write(&lent, list, room, order) {
+        Err(why) => Reply {
+            code: code_of(why),
+            note: 0,
+            reads: 0,
+            writes: 0,
+            logs: 0,
+        },
+        Ok(()) => {
             let given = layout::params_of(fixed);
             let m = word::load(tables, 0, 2) as usize;
-            write_log(
-                target,
+            let pages = Pages {
+                size: given.size as usize,
+                count: given.pages as u32,
                 stored,
-                online,
-                m,
-                given.size as u32,
-                given.pages as u32,
-                list,
-                salt_1,
-                salt_2,
-                sequence,
-                order == 1,
-            );
-            Reply {
-                code: 0,
-                note: 0,
+                online: row::first_rows::<19>(online, m),
+            };
+            write_log(target, &pages, list, salt_1, salt_2, sequence, order == 1);
+            Reply::from(Answer::Done(Counts {
                 reads: list.len() as u32,
                 writes: 0,
                 logs: 0,
-            }
+            }))
         }
     }
 }

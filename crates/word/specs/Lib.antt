@@ -1,2 +1,3 @@
 -- What the contracts of `word` cite.
+pub mod Big
 pub mod Word

@@ -2,42 +2,35 @@
 // Nothing else of the slice changes. The caller shows that the place is within the slice.
 #![tactic(auto)]
 
-ghost use Rattle.std.specs.Prelude.{◌≡◌, ℕ, ◌+◌, ◌≤◌, ◌<◌, ◌^◌, length};
+pub mod big;
+
+ghost use Rattle.std.specs.Prelude.{◌≡◌, ◌+◌, ◌≤◌, ◌<◌, ◌^◌, length};
 ghost use Rattle.word.specs.Word.{num, put};
 
-// A byte as a wide number.
-pub fn wide(b: u8) -> u64
-    ensures { (result ≡ b) × (result < 256) }
-{
-    b as u64
-}
-
 // The number that w bytes hold from the place `at`.
+#[tactic(auto, using(crate::proofs::Laws::num_none, crate::proofs::Laws::load_done))]
 pub fn load(s: &[u8], at: usize, w: usize) -> u64
     requires { (w ≤ 8) × (at + w ≤ length s.now) }
     ensures { (result ≡ num w s.now at) × (result < 256 ^ w) }
 {
     let mut n: u64 = 0;
-    let mut i = w;
-    // n is the number of the bytes from at + i up to at + w
-    while 0 < i {
-        i -= 1;
-        n = n * 256 + wide(s[at + i]);
+    // n is the number of the bytes from at + i on, up to at + w
+    for i in (0..w).rev() {
+        n = n * 256 + u64::from(s[at + i]);
     }
     n
 }
 
 // Writes the w lowest bytes of v from the place `at`.
+#[tactic(auto, using(crate::proofs::Laws::put_none, crate::proofs::Laws::put_turn))]
 pub fn store(s: &mut [u8], at: usize, w: usize, v: u64)
     requires { (w ≤ 8) × (at + w ≤ length s.old) }
     ensures { s.new ≡ put w s.old at v }
 {
     let mut x = v;
-    let mut i = 0;
     // x is what is left of v once i bytes are written
-    while i < w {
+    for i in 0..w {
         s[at + i] = (x % 256) as u8;
-        x = x / 256;
-        i += 1;
+        x /= 256;
     }
 }

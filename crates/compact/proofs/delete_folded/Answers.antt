@@ -1,8 +1,9 @@
--- `compact::delete_folded` meets its contract: the count that is stored is the count of rows that are left.
-use Prim.Native.Nat.{ℕ}
-use mathlib.Core.Path.{ap, ◌∙◌}
-use Rattle.word.specs.Word.{put}
+-- `compact::delete_folded`: the page's committed rows stand where the survey says.
+use Rattle.record.proofs.Rows.{length_rows}
 use Rattle.compact.proofs.delete_folded.Goals as goal
 
-pub returns : goal.returns
-returns c = (c.store.ensures ∙ ap (λ (k : ℕ). put 2 c.args.tables.now 0 k) c.delete-k.ensures.1, c.delete-k.ensures.0)
+pub delete-k-requires : goal.delete-k-requires
+delete-k-requires c =
+    let u = c.requires.3 in
+    let n = length_rows 19 c.args.m c.args.online.now 0 in
+    (c.requires.1, c.requires.2, u.ordered, rw n at u.within, u.from, rw n at u.to)

@@ -7,15 +7,10 @@ use Rattle.rules.specs.Areas.{areas}
 use Rattle.fetch.proofs.Rows.{changed}
 use Rattle.fetch.proofs.change_page.Goals as goal
 
-pub fetch-got-requires : goal.fetch-got-requires
-fetch-got-requires c =
-    let h = c.requires in
-    (h.0, h.1, c.load_order-order.ensures.0, c.load_order-order.ensures.1)
-
 pub note_change-requires : goal.note_change-requires
 note_change-requires c =
     let h = c.requires in
-    let z = c.load_sizes-s.ensures in
+    let z = c.params_of-given.ensures in
     let k : length c.fetch-got.new.tables ≡ length c.args.tables.now = search rules in (
       omega (arith, h.1, h.0.sized.tables),
       omega (arith, h.0.sized.frames),
@@ -28,4 +23,4 @@ pub returns : goal.returns
 returns c =
     let a = c.args in
     let h = c.requires in
-    changed (areas a.fixed.now a.marks.now a.log.now a.stored.now a.tables.now a.online.now a.pool.now) a.p.0 _ _ _ _ _ _ _ _ _ _ h.0 h.1 c.load_sizes-s.ensures c.count_of-m.ensures.0 c.load_order-order.ensures.0 c.fetch-got.ensures c.note_change.ensures
+    changed (areas a.fixed.now a.marks.now a.log.now a.stored.now a.tables.now a.online.now a.pool.now) a.p.0 _ _ _ _ _ _ _ _ h.0 h.1 c.params_of-given.ensures c.count_of-m.ensures.0 c.load_order-order.ensures.0 c.fetch-got.ensures c.note_change.ensures

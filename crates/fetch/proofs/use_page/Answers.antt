@@ -7,19 +7,14 @@ use Rattle.rules.specs.Areas.{areas}
 use Rattle.fetch.proofs.Laws.{used}
 use Rattle.fetch.proofs.use_page.Goals as goal
 
-pub fetch-got-requires : goal.fetch-got-requires
-fetch-got-requires c =
-    let h = c.requires in
-    (h.0, h.1, c.load_order-order.ensures.0, c.load_order-order.ensures.1)
-
 pub make_latest-requires : goal.make_latest-requires
 make_latest-requires c =
     let h = c.requires.0.sized in
-    let z = c.load_sizes-s.ensures in
+    let z = c.params_of-given.ensures in
     let k : length c.fetch-got.new.tables ≡ length c.args.tables.now = search rules in
     (omega (arith, h.tables), omega (arith, h.frames), c.load_order-order.ensures.1, omega (arith, h.frames, c.fetch-got.ensures.within))
 
 pub returns : goal.returns
 returns c =
     let a = c.args in
-    used (areas a.fixed.now a.marks.now a.log.now a.stored.now a.tables.now a.online.now a.pool.now) a.p.0 _ _ _ _ _ _ _ _ _ c.load_sizes-s.ensures c.load_order-order.ensures.0 c.fetch-got.ensures c.make_latest.ensures
+    used (areas a.fixed.now a.marks.now a.log.now a.stored.now a.tables.now a.online.now a.pool.now) a.p.0 _ _ _ _ _ _ _ c.params_of-given.ensures c.load_order-order.ensures.0 c.fetch-got.ensures c.make_latest.ensures

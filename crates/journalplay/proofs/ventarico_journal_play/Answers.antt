@@ -2,18 +2,16 @@
 use Rattle.journalplay.proofs.Judges.{ready, play_no, play_done}
 use Rattle.journalplay.proofs.ventarico_journal_play.Goals as goal
 
-pub returns-then-code-ne0 : goal.returns-then-code-ne0
-returns-then-code-ne0 c =
-    let a = c.args in
-    play_no a.journal.now a.pages.now a.page_size _ c.judge-judged.ensures c.if-code-ne0.true
+pub body_of-requires : goal.body_of-requires
+body_of-requires c = (ready _ _ _ _ c.in-Ok.ensures).1.long
 
-pub restore_all-requires : goal.restore_all-requires
-restore_all-requires c =
-    let a = c.args in
-    let w = ready a.journal.now _ a.page_size _ c.judge-judged.ensures c.if-code-ne0.false in
-    (w.long, w.some, w.room, w.inner)
+pub restore-requires : goal.restore-requires
+restore-requires c =
+    let w = (ready _ _ _ _ c.in-Ok.ensures).1 in
+    rw c.body_of.ensures (w.some, w.room, w.inner)
 
-pub returns : goal.returns
-returns c =
-    let a = c.args in
-    play_done a.journal.now a.pages.now a.page_size _ c.judge-judged.ensures _ c.if-code-ne0.false c.restore_all.ensures
+pub returns-in-Ok : goal.returns-in-Ok
+returns-in-Ok c = rw c.from.ensures (play_done _ _ _ _ _ c.in-Ok.ensures (rw c.body_of.ensures at c.restore.ensures))
+
+pub returns-in-Err : goal.returns-in-Err
+returns-in-Err c = rw c.from-in-Err.ensures (play_no _ _ _ _ c.in-Err.ensures)

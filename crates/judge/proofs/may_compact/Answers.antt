@@ -1,15 +1,11 @@
 -- `judge::may_compact` meets its contract: each return is the first of `compact_refusals` that holds, or none.
 use mathlib.Core.Path.{refl, ap}
 use mathlib.Core.Bool.{not}
-use borrow.Author.Tests.{lt-ltb, le-ltb}
+use borrow.Author.Tests.{lt-ltb}
 use Rattle.rules.specs.Calls.{verdict_of, compact_refusals, checkpoint_refusals}
 use Rattle.rules.proofs.Verdicts.{refused, passed}
 use Rattle.judge.proofs.Laws.{turned}
 use Rattle.judge.proofs.may_compact.Goals as goal
-
-pub returns-then-pages-p : goal.returns-then-pages-p
-unfolding verdict_of compact_refusals checkpoint_refusals
-returns-then-pages-p c = refused _ _ _ (ap not (le-ltb _ _ c.if-pages-p.true))
 
 pub returns-then-not-are_parameters : goal.returns-then-not-are_parameters
 unfolding verdict_of compact_refusals checkpoint_refusals

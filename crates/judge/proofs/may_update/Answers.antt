@@ -2,15 +2,13 @@
 use mathlib.Core.Path.{◌≡◌, refl, ap, sym, ◌∙◌}
 use mathlib.Core.Bool.{not}
 use native.Mathlib.Omega.{arith}
-use borrow.Author.Rules.{rules}
-use borrow.Author.Tests.{lt-ltb, le-ltb, le-leb, lt-leb}
+use borrow.Author.Tests.{lt-ltb, le-ltb, le-leb}
 use Prim.Native.Nat.{ℕ, ◌+◌, ◌≤◌, ◌<◌}
 use mathlib.Core.Bool.{true}
 use mathlib.Core.List.{List}
-use Rattle.record.specs.Rows.{rows}
 use Rattle.record.specs.Record.{row_of}
 use Rattle.rules.specs.Calls.{is_number, held_to_read, held_to_update, verdict_of, update_refusals}
-use Rattle.rules.proofs.Verdicts.{refused, passed, number_least, number_most}
+use Rattle.rules.proofs.Verdicts.{refused, passed, number_least}
 use Rattle.judge.proofs.Laws.{turned, same, held_apart}
 use Rattle.judge.proofs.may_update.Goals as goal
 
@@ -19,48 +17,14 @@ asked : (p offset w kind v x size pages : ℕ) (l : List (List ℕ)) → p < pag
     → held_to_read l x p offset w ≡ held_to_update l (row_of p offset w kind v x)
 asked p offset w kind v x size pages l h k m n e = held_apart p offset w kind v x (omega arith) (omega arith) (number_least x e) l
 
-pub is_live-requires : goal.is_live-requires
-is_live-requires c = (number_most _ (sym c.is_number.ensures ∙ c.if-not-is_number.false), search rules)
-
-pub is_value-requires : goal.is_value-requires
-is_value-requires c = sym c.is_length.ensures ∙ c.if-not-is_length.false
-
-pub returns-then-pages-p : goal.returns-then-pages-p
-unfolding verdict_of update_refusals
-returns-then-pages-p c = refused _ _ _ (ap not (le-ltb _ _ c.if-pages-p.true))
-
-pub returns-then-not-is_number : goal.returns-then-not-is_number
-unfolding verdict_of update_refusals
-returns-then-not-is_number c = passed _ _ _ _ (ap not (lt-ltb _ _ c.if-pages-p.false)) (refused _ _ _ (turned _ _ _ c.is_number.ensures (ap not c.if-not-is_number.true)))
-
-pub returns-then-not-is_length : goal.returns-then-not-is_length
-unfolding verdict_of update_refusals
-returns-then-not-is_length c = passed _ _ _ _ (ap not (lt-ltb _ _ c.if-pages-p.false)) (passed _ _ _ _ (turned _ _ _ c.is_number.ensures (ap not c.if-not-is_number.false)) (refused _ _ _ (turned _ _ _ c.is_length.ensures (ap not c.if-not-is_length.true))))
-
-pub returns-then-size-offset : goal.returns-then-size-offset
-unfolding verdict_of update_refusals
-returns-then-size-offset c = passed _ _ _ _ (ap not (lt-ltb _ _ c.if-pages-p.false)) (passed _ _ _ _ (turned _ _ _ c.is_number.ensures (ap not c.if-not-is_number.false)) (passed _ _ _ _ (turned _ _ _ c.is_length.ensures (ap not c.if-not-is_length.false)) (refused _ _ _ (ap not (lt-leb _ _ c.if-size-offset.true)))))
-
-pub returns-then-not-is_value : goal.returns-then-not-is_value
-unfolding verdict_of update_refusals
-returns-then-not-is_value c = passed _ _ _ _ (ap not (lt-ltb _ _ c.if-pages-p.false)) (passed _ _ _ _ (turned _ _ _ c.is_number.ensures (ap not c.if-not-is_number.false)) (passed _ _ _ _ (turned _ _ _ c.is_length.ensures (ap not c.if-not-is_length.false)) (passed _ _ _ _ (ap not (le-leb _ _ c.if-size-offset.false)) (refused _ _ _ (turned _ _ _ c.is_value.ensures (ap not c.if-not-is_value.true))))))
-
-pub returns-then-kind-gt1 : goal.returns-then-kind-gt1
-unfolding verdict_of update_refusals
-returns-then-kind-gt1 c = passed _ _ _ _ (ap not (lt-ltb _ _ c.if-pages-p.false)) (passed _ _ _ _ (turned _ _ _ c.is_number.ensures (ap not c.if-not-is_number.false)) (passed _ _ _ _ (turned _ _ _ c.is_length.ensures (ap not c.if-not-is_length.false)) (passed _ _ _ _ (ap not (le-leb _ _ c.if-size-offset.false)) (passed _ _ _ _ (turned _ _ _ c.is_value.ensures (ap not c.if-not-is_value.false)) (refused _ _ _ (ap not (lt-leb _ _ c.if-kind-gt1.true)))))))
-
-pub returns-then-not-is_live : goal.returns-then-not-is_live
-unfolding verdict_of update_refusals
-returns-then-not-is_live c = passed _ _ _ _ (ap not (lt-ltb _ _ c.if-pages-p.false)) (passed _ _ _ _ (turned _ _ _ c.is_number.ensures (ap not c.if-not-is_number.false)) (passed _ _ _ _ (turned _ _ _ c.is_length.ensures (ap not c.if-not-is_length.false)) (passed _ _ _ _ (ap not (le-leb _ _ c.if-size-offset.false)) (passed _ _ _ _ (turned _ _ _ c.is_value.ensures (ap not c.if-not-is_value.false)) (passed _ _ _ _ (ap not (le-leb _ _ c.if-kind-gt1.false)) (refused _ _ _ (turned _ _ _ c.is_live.ensures (ap not c.if-not-is_live.true))))))))
-
 pub returns-then-is_held : goal.returns-then-is_held
 unfolding verdict_of update_refusals
-returns-then-is_held c = passed _ _ _ _ (ap not (lt-ltb _ _ c.if-pages-p.false)) (passed _ _ _ _ (turned _ _ _ c.is_number.ensures (ap not c.if-not-is_number.false)) (passed _ _ _ _ (turned _ _ _ c.is_length.ensures (ap not c.if-not-is_length.false)) (passed _ _ _ _ (ap not (le-leb _ _ c.if-size-offset.false)) (passed _ _ _ _ (turned _ _ _ c.is_value.ensures (ap not c.if-not-is_value.false)) (passed _ _ _ _ (ap not (le-leb _ _ c.if-kind-gt1.false)) (passed _ _ _ _ (turned _ _ _ c.is_live.ensures (ap not c.if-not-is_live.false)) (refused _ _ _ (sym (asked c.args.p c.args.offset c.args.w c.args.kind c.args.v c.args.x c.args.size c.args.pages (rows 19 c.args.m c.args.online.now 0) c.if-pages-p.false c.if-size-offset.false c.requires.3 c.requires.4 (sym c.is_number.ensures ∙ c.if-not-is_number.false)) ∙ same _ _ _ c.is_held.ensures c.if-is_held.true))))))))
+returns-then-is_held c = passed _ _ _ _ (ap not (lt-ltb _ _ c.if-pages-p.false)) (passed _ _ _ _ (turned _ _ _ c.is_number.ensures (ap not c.if-not-is_number.false)) (passed _ _ _ _ (turned _ _ _ c.is_length.ensures (ap not c.if-not-is_length.false)) (passed _ _ _ _ (ap not (le-leb _ _ c.if-size-offset.false)) (passed _ _ _ _ (turned _ _ _ c.is_value.ensures (ap not c.if-not-is_value.false)) (passed _ _ _ _ (ap not (le-leb _ _ c.if-kind-gt1.false)) (passed _ _ _ _ (turned _ _ _ c.is_live.ensures (ap not c.if-not-is_live.false)) (refused _ _ _ (sym (asked c.args.p c.args.offset c.args.w c.args.kind c.args.v c.args.x c.args.size c.args.pages c.args.online.now c.if-pages-p.false c.if-size-offset.false c.requires.1 c.requires.2 (sym c.is_number.ensures ∙ c.if-not-is_number.false)) ∙ same _ _ _ c.is_held.ensures c.if-is_held.true))))))))
 
-pub returns-then-room-m : goal.returns-then-room-m
+pub returns-then-room-online : goal.returns-then-room-online
 unfolding verdict_of update_refusals
-returns-then-room-m c = passed _ _ _ _ (ap not (lt-ltb _ _ c.if-pages-p.false)) (passed _ _ _ _ (turned _ _ _ c.is_number.ensures (ap not c.if-not-is_number.false)) (passed _ _ _ _ (turned _ _ _ c.is_length.ensures (ap not c.if-not-is_length.false)) (passed _ _ _ _ (ap not (le-leb _ _ c.if-size-offset.false)) (passed _ _ _ _ (turned _ _ _ c.is_value.ensures (ap not c.if-not-is_value.false)) (passed _ _ _ _ (ap not (le-leb _ _ c.if-kind-gt1.false)) (passed _ _ _ _ (turned _ _ _ c.is_live.ensures (ap not c.if-not-is_live.false)) (passed _ _ _ _ (sym (asked c.args.p c.args.offset c.args.w c.args.kind c.args.v c.args.x c.args.size c.args.pages (rows 19 c.args.m c.args.online.now 0) c.if-pages-p.false c.if-size-offset.false c.requires.3 c.requires.4 (sym c.is_number.ensures ∙ c.if-not-is_number.false)) ∙ same _ _ _ c.is_held.ensures c.if-is_held.false) (refused _ _ _ (lt-ltb _ _ c.if-room-m.true)))))))))
+returns-then-room-online c = passed _ _ _ _ (ap not (lt-ltb _ _ c.if-pages-p.false)) (passed _ _ _ _ (turned _ _ _ c.is_number.ensures (ap not c.if-not-is_number.false)) (passed _ _ _ _ (turned _ _ _ c.is_length.ensures (ap not c.if-not-is_length.false)) (passed _ _ _ _ (ap not (le-leb _ _ c.if-size-offset.false)) (passed _ _ _ _ (turned _ _ _ c.is_value.ensures (ap not c.if-not-is_value.false)) (passed _ _ _ _ (ap not (le-leb _ _ c.if-kind-gt1.false)) (passed _ _ _ _ (turned _ _ _ c.is_live.ensures (ap not c.if-not-is_live.false)) (passed _ _ _ _ (sym (asked c.args.p c.args.offset c.args.w c.args.kind c.args.v c.args.x c.args.size c.args.pages c.args.online.now c.if-pages-p.false c.if-size-offset.false c.requires.1 c.requires.2 (sym c.is_number.ensures ∙ c.if-not-is_number.false)) ∙ same _ _ _ c.is_held.ensures c.if-is_held.false) (refused _ _ _ (lt-ltb _ _ c.if-room-online.true)))))))))
 
 pub returns : goal.returns
 unfolding verdict_of update_refusals
-returns c = passed _ _ _ _ (ap not (lt-ltb _ _ c.if-pages-p.false)) (passed _ _ _ _ (turned _ _ _ c.is_number.ensures (ap not c.if-not-is_number.false)) (passed _ _ _ _ (turned _ _ _ c.is_length.ensures (ap not c.if-not-is_length.false)) (passed _ _ _ _ (ap not (le-leb _ _ c.if-size-offset.false)) (passed _ _ _ _ (turned _ _ _ c.is_value.ensures (ap not c.if-not-is_value.false)) (passed _ _ _ _ (ap not (le-leb _ _ c.if-kind-gt1.false)) (passed _ _ _ _ (turned _ _ _ c.is_live.ensures (ap not c.if-not-is_live.false)) (passed _ _ _ _ (sym (asked c.args.p c.args.offset c.args.w c.args.kind c.args.v c.args.x c.args.size c.args.pages (rows 19 c.args.m c.args.online.now 0) c.if-pages-p.false c.if-size-offset.false c.requires.3 c.requires.4 (sym c.is_number.ensures ∙ c.if-not-is_number.false)) ∙ same _ _ _ c.is_held.ensures c.if-is_held.false) (passed _ _ _ _ (le-ltb _ _ c.if-room-m.false) refl))))))))
+returns c = passed _ _ _ _ (ap not (lt-ltb _ _ c.if-pages-p.false)) (passed _ _ _ _ (turned _ _ _ c.is_number.ensures (ap not c.if-not-is_number.false)) (passed _ _ _ _ (turned _ _ _ c.is_length.ensures (ap not c.if-not-is_length.false)) (passed _ _ _ _ (ap not (le-leb _ _ c.if-size-offset.false)) (passed _ _ _ _ (turned _ _ _ c.is_value.ensures (ap not c.if-not-is_value.false)) (passed _ _ _ _ (ap not (le-leb _ _ c.if-kind-gt1.false)) (passed _ _ _ _ (turned _ _ _ c.is_live.ensures (ap not c.if-not-is_live.false)) (passed _ _ _ _ (sym (asked c.args.p c.args.offset c.args.w c.args.kind c.args.v c.args.x c.args.size c.args.pages c.args.online.now c.if-pages-p.false c.if-size-offset.false c.requires.1 c.requires.2 (sym c.is_number.ensures ∙ c.if-not-is_number.false)) ∙ same _ _ _ c.is_held.ensures c.if-is_held.false) (passed _ _ _ _ (le-ltb _ _ c.if-room-online.false) refl))))))))

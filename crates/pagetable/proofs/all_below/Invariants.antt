@@ -1,14 +1,7 @@
--- `pagetable::all_below` meets its contract: the bytes passed, and those still to be seen, decide as much as the whole.
-use Prim.Native.Nat.{ℕ, ◌-◌, ◌≤◌}
-use mathlib.Core.Path.{◌≡◌}
-use mathlib.Core.Bool.{◌&&◌}
-use lib.ListN.{length, drop}
-use lib.Dec.{ltb}
+-- `pagetable::all_below` meets its contract: `ok` says it of the bytes passed.
+use Rattle.std.proofs.Common.{ℕ, ◌≡◌, take, ltb}
 use Rattle.rules.specs.Sound.{every}
 use Rattle.pagetable.proofs.all_below.Given as goal
 
-abbrev pub invariant-loop-i : goal.invariant-loop-i
-invariant-loop-i l = (l.i ≤ length l.s) × (every (λ (b : ℕ). ltb b l.end) l.s ≡ (l.ok && every (λ (b : ℕ). ltb b l.end) (drop l.i l.s)))
-
-abbrev pub decreases-loop-i : goal.decreases-loop-i
-decreases-loop-i l = length l.s - l.i
+abbrev pub invariant-loop-b : goal.invariant-loop-b
+invariant-loop-b l = l.ok ≡ every (λ (b : ℕ). ltb b l.end) (take l.b-index l.s)

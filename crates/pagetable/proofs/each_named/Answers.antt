@@ -1,31 +1,11 @@
-use Prim.Native.Nat.{ℕ, ◌+◌}
-use mathlib.Core.Path.{refl, ap}
-use mathlib.Core.Bool.{not}
-use lib.ListN.{get_or}
-use lib.Dec.{eqb}
-use borrow.Author.Tests.{eq-eqb, ne_eqb}
-use Rattle.rules.proofs.Walks.{up_to_none, up_to_fail, up_to_turn, up_to_done}
-use borrow.Author.Rules.{rules}
+use Rattle.std.proofs.Common.{ℕ, ◌+◌, eqb, refl, arith, ◌∙◌, get_or, rules, tests}
+use Rattle.std.proofs.lemmas.Iterator.{YieldsList-from_range}
+use Rattle.std.proofs.lemmas.Iterator.Search.{all_from_yields_List}
+use Rattle.pagetable.proofs.Loops.{up_to_list}
 use Rattle.pagetable.proofs.each_named.Goals as goal
-
-pub loop-f-init : goal.loop-f-init
-loop-f-init c = (search rules, up_to_none _ _)
-
-pub returns-then-named-f : goal.returns-then-named-f
-returns-then-named-f c =
-    let a = c.args in
-    up_to_fail (λ (g : ℕ). eqb (get_or a.named.now g 0) (get_or a.served.now (g + 1) 0)) a.frames c.loop-f.f _ _
-    c.loop-f-test.true (ap not (ne_eqb _ _ c.if-named-f.true)) refl c.loop-f.invariant.1
-
-pub loop-f-preserved : goal.loop-f-preserved
-loop-f-preserved c =
-    let a = c.args in (
-      search rules,
-      up_to_turn (λ (g : ℕ). eqb (get_or a.named.now g 0) (get_or a.served.now (g + 1) 0)) a.frames c.loop-f.f _ _
-          c.loop-f-test.true (ap not (eq-eqb _ _ c.if-named-f.false)) refl c.loop-f.invariant.1,
-    )
 
 pub returns : goal.returns
 returns c =
     let a = c.args in
-    up_to_done (λ (g : ℕ). eqb (get_or a.named.now g 0) (get_or a.served.now (g + 1) 0)) a.frames c.loop-f.f _ c.loop-f-test.false c.loop-f.invariant.1
+    all_from_yields_List (λ (f : ℕ). eqb (get_or a.named.now f 0) (get_or a.served.now (f + 1) 0)) _ _ _ c.all.ensures.ran (YieldsList-from_range 0 a.frames a.frames refl (omega arith)) (λ x b q k. search (rules, tests))
+    ∙ up_to_list (λ (f : ℕ). eqb (get_or a.named.now f 0) (get_or a.served.now (f + 1) 0)) a.frames 0

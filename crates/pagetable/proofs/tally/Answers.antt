@@ -1,23 +1,20 @@
-use native.Mathlib.Omega.{arith}
-use mathlib.Core.Bool.{false}
-use Rattle.pagetable.proofs.Loops.{tally_none, tally_turn, tally_room, tally_done}
-use borrow.Author.Rules.{rules}
+use Rattle.std.proofs.Common.{arith, rules}
+use Rattle.pagetable.proofs.Loops.{tally_none, tally_turn, tally_pass, tally_room, tally_done}
 use Rattle.pagetable.proofs.tally.Goals as goal
+use Rattle.pagetable.proofs.tally.Goals.{then-k, else-k}
 
-pub loop-i-init : goal.loop-i-init
-loop-i-init c = (search rules, tally_none false 0 _)
-
-pub bounds-a-k : goal.bounds-a-k
-bounds-a-k c = omega (arith, c.loop-i.invariant.1.size)
+pub loop-b-init : goal.loop-b-init
+loop-b-init g c = tally_none g.row.SHARE g.row.LEAST _
 
 pub overflow_add-a : goal.overflow_add-a
-overflow_add-a c = omega (arith, tally_room false 0 _ _ c.loop-i.a c.wide-k.result (omega arith) c.wide-k.ensures.1 c.loop-i.invariant.1)
+overflow_add-a g c = omega (arith, tally_room g.row.SHARE g.row.LEAST _ _ c.loop-b.a c.from-k.result c.if-k.true (search rules) c.loop-b.invariant)
 
-pub bounds-a-k-in-loop-i : goal.bounds-a-k-in-loop-i
-bounds-a-k-in-loop-i c = omega (arith, c.loop-i.invariant.1.size)
-
-pub loop-i-preserved : goal.loop-i-preserved
-loop-i-preserved c = (search rules, tally_turn false 0 _ _ _ _ c.loop-i-test.true c.wide-k.ensures.0 c.wide-k.ensures.1 c.loop-i.invariant.1)
+pub loop-b-preserved : goal.loop-b-preserved
+loop-b-preserved g c =
+    elim c.if-k.branch [
+      | then-k w ↦ rw w.a-is (tally_turn g.row.SHARE g.row.LEAST _ _ _ _ c.loop-b-test.true c.from-k.ensures (search rules) c.loop-b.invariant)
+      | else-k w ↦ rw w.a-is (tally_pass g.row.SHARE g.row.LEAST _ _ _ c.from-k.result c.loop-b-test.true c.from-k.ensures w.if-k.false c.loop-b.invariant)
+    ]
 
 pub returns : goal.returns
-returns c = tally_done false 0 _ _ _ c.loop-i-test.false c.loop-i.invariant.1
+returns g c = tally_done g.row.SHARE g.row.LEAST _ _ _ c.loop-b-test.false c.loop-b.invariant

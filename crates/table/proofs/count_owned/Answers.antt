@@ -1,27 +1,31 @@
-use Prim.Native.Nat.{◌+◌}
-use mathlib.Core.Path.{◌≡◌, sym, ap, ◌∙◌}
-use mathlib.Core.Bool.{Bool, cond}
-use lib.ListN.{length}
-use borrow.Author.Rules.{rules}
+use mathlib.Core.Path.{ap, ◌≡◌}
+use mathlib.Core.Bool.{cond}
+use mathlib.Core.List.{[]}
+use Prim.Native.Nat.{ℕ, ◌+◌}
+use lib.ListN.{length, get_or}
+use lib.Dec.{eqb}
 use borrow.Author.Tests.{eq-eqb, ne_eqb}
 use native.Mathlib.Omega.{arith}
-use Rattle.record.specs.Rows.{rows, keep}
+use Rattle.record.specs.Rows.{keep}
 use Rattle.record.specs.Record.{owned_by}
-use Rattle.record.proofs.Rows.{count_start, count_turn, count_end}
+use Rattle.record.proofs.Listed.{when_so, when_not, count_more, count_all}
+use Rattle.record.proofs.Rows.{keep_length}
 use Rattle.table.proofs.count_owned.Goals as goal
 use Rattle.table.proofs.count_owned.Goals.{then-owner_of-owner, else-owner_of-owner}
 
-pub loop-i-init : goal.loop-i-init
-loop-i-init c = (search rules, search rules, count_start _ _ _ _ _)
-
-pub loop-i-preserved : goal.loop-i-preserved
-loop-i-preserved c =
+pub loop-row-preserved : goal.loop-row-preserved
+loop-row-preserved c =
+    let a = c.args in
+    let r = get_or a.online.now c.loop-row.row-index [] in
+    let one : c.if-owner_of-owner.n ≡ cond (owned_by a.owner r) (c.loop-row.n + 1) c.loop-row.n =
     elim c.if-owner_of-owner.branch [
-      | then-owner_of-owner w ↦ (omega arith, omega arith, count_turn _ _ _ _ _ _ _ _ c.loop-i-test.true (w.n-is ∙ sym (ap (λ (z : Bool). cond z (c.loop-i.n + 1) c.loop-i.n) (eq-eqb _ _ (sym c.owner_of.ensures ∙ w.if-owner_of-owner.true)))) c.loop-i.invariant.2)
-      | else-owner_of-owner w ↦ (omega arith, omega arith, count_turn _ _ _ _ _ _ _ _ c.loop-i-test.true (w.n-is ∙ sym (ap (λ (z : Bool). cond z (c.loop-i.n + 1) c.loop-i.n) (ne_eqb _ _ (λ e. w.if-owner_of-owner.false (c.owner_of.ensures ∙ e))))) c.loop-i.invariant.2)
+      | then-owner_of-owner w ↦ when_so (eqb c.owner_of.result a.owner) _ _ _ _ (ap (λ (o : ℕ). eqb o a.owner) c.owner_of.ensures) (eq-eqb _ _ w.if-owner_of-owner.true) w.n-is
+      | else-owner_of-owner w ↦ when_not (eqb c.owner_of.result a.owner) _ _ _ _ (ap (λ (o : ℕ). eqb o a.owner) c.owner_of.ensures) (ne_eqb _ _ w.if-owner_of-owner.false) w.n-is
     ]
+    in
+    (omega arith, count_more _ _ _ _ _ _ c.loop-row-test.true one c.loop-row.invariant.1)
 
 pub returns : goal.returns
 returns c =
-    let e : c.loop-i.n ≡ 0 + length (keep (owned_by c.args.owner) (rows 19 c.args.m c.args.t.now 0)) = count_end _ _ _ _ _ _ _ c.loop-i-test.false c.loop-i.invariant.2 in
-    (omega arith, search rules)
+    let e : c.loop-row.n ≡ 0 + length (keep (owned_by c.args.owner) c.args.online.now) = count_all _ _ _ _ _ c.loop-row-test.false c.loop-row.invariant.1 in
+    (omega arith, omega (arith, keep_length (owned_by c.args.owner) c.args.online.now))

@@ -3,7 +3,7 @@ ghost use Rattle.rules.specs.Areas.{areas};
 ghost use Rattle.rules.specs.Calls.{abort_call};
 ghost use Rattle.ventarico.specs.Said.{Told};
 
-use rules::{Reply, Verdict};
+use rules::{Areas, Reply};
 
 pub fn ventarico_abort(
     fixed: &[u8],
@@ -18,10 +18,18 @@ pub fn ventarico_abort(
     ensures { Told (abort_call (areas fixed.now marks.now log.now stored.now tables.old online.old pool.now) number) result
         (areas fixed.now marks.now log.now stored.now tables.new online.new pool.now) }
 {
-    let v = verdict::judge_abort(fixed, marks, log, stored, tables, online, pool, number);
-    match v {
-        Verdict::Refuse(why) => crate::answer::refused(why),
-        Verdict::Go => {
+    let lent = Areas {
+        fixed,
+        marks,
+        log,
+        stored,
+        tables: &*tables,
+        online: &*online,
+        pool,
+    };
+    match verdict::judge_abort(&lent, number) {
+        Err(why) => crate::answer::refused(why),
+        Ok(()) => {
             let owner = number as u8;
             steps::abort::abort(fixed, marks, log, stored, tables, online, pool, owner);
             crate::answer::done(0, 0, 0)

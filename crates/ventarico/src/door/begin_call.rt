@@ -3,7 +3,7 @@ ghost use Rattle.rules.specs.Areas.{areas};
 ghost use Rattle.rules.specs.Calls.{begin_call};
 ghost use Rattle.ventarico.specs.Said.{Told};
 
-use rules::{Reply, Verdict};
+use rules::{Areas, Reply};
 
 pub fn ventarico_begin(
     fixed: &[u8],
@@ -18,10 +18,18 @@ pub fn ventarico_begin(
     ensures { Told (begin_call (areas fixed.now marks.now log.now stored.now tables.old online.now pool.now) number) result
         (areas fixed.now marks.now log.now stored.now tables.new online.now pool.now) }
 {
-    let v = verdict::judge_begin(fixed, marks, log, stored, tables, online, pool, number);
-    match v {
-        Verdict::Refuse(why) => crate::answer::refused(why),
-        Verdict::Go => {
+    let lent = Areas {
+        fixed,
+        marks,
+        log,
+        stored,
+        tables: &*tables,
+        online,
+        pool,
+    };
+    match verdict::judge_begin(&lent, number) {
+        Err(why) => crate::answer::refused(why),
+        Ok(()) => {
             steps::begin::begin(fixed, marks, log, stored, tables, online, pool, number);
             crate::answer::done(0, 0, 0)
         }

@@ -3,7 +3,7 @@ ghost use Rattle.rules.specs.Areas.{areas};
 ghost use Rattle.rules.specs.Calls.{checkpoint_call};
 ghost use Rattle.ventarico.specs.Said.{Told};
 
-use rules::{Reply, Verdict};
+use rules::{Areas, Reply};
 
 pub fn ventarico_checkpoint(
     fixed: &[u8],
@@ -19,12 +19,18 @@ pub fn ventarico_checkpoint(
     ensures { Told (checkpoint_call (areas fixed.now marks.old log.old stored.old tables.old online.old pool.now) min_del max_age) result
         (areas fixed.now marks.new log.new stored.new tables.new online.new pool.now) }
 {
-    let v = verdict::judge_checkpoint(
-        fixed, marks, log, stored, tables, online, pool, min_del, max_age,
-    );
-    match v {
-        Verdict::Refuse(why) => crate::answer::refused(why),
-        Verdict::Go => {
+    let lent = Areas {
+        fixed,
+        marks: &*marks,
+        log: &*log,
+        stored: &*stored,
+        tables: &*tables,
+        online: &*online,
+        pool,
+    };
+    match verdict::judge_checkpoint(&lent, min_del, max_age) {
+        Err(why) => crate::answer::refused(why),
+        Ok(()) => {
             let c = checkpoint::checkpoint(
                 fixed,
                 marks,

@@ -3,7 +3,7 @@ ghost use Rattle.rules.specs.Areas.{areas};
 ghost use Rattle.rules.specs.Calls.{commit_call};
 ghost use Rattle.ventarico.specs.Said.{Told};
 
-use rules::{Reply, Verdict};
+use rules::{Areas, Reply};
 
 pub fn ventarico_commit(
     fixed: &[u8],
@@ -18,10 +18,18 @@ pub fn ventarico_commit(
     ensures { Told (commit_call (areas fixed.now marks.old log.old stored.now tables.old online.old pool.now) number) result
         (areas fixed.now marks.new log.new stored.now tables.new online.new pool.now) }
 {
-    let v = verdict::judge_commit(fixed, marks, log, stored, tables, online, pool, number);
-    match v {
-        Verdict::Refuse(why) => crate::answer::refused(why),
-        Verdict::Go => {
+    let lent = Areas {
+        fixed,
+        marks: &*marks,
+        log: &*log,
+        stored,
+        tables: &*tables,
+        online: &*online,
+        pool,
+    };
+    match verdict::judge_commit(&lent, number) {
+        Err(why) => crate::answer::refused(why),
+        Ok(()) => {
             let logs = commit::commit(
                 fixed,
                 marks,

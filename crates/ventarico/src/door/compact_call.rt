@@ -4,7 +4,7 @@ ghost use Rattle.rules.specs.Calls.{compact_call};
 ghost use Rattle.ventarico.specs.Said.{Told};
 
 use number::PageNo;
-use rules::{Reply, Verdict};
+use rules::{Areas, Reply};
 
 pub fn ventarico_compact(
     fixed: &[u8],
@@ -21,13 +21,19 @@ pub fn ventarico_compact(
     ensures { Told (compact_call (areas fixed.now marks.old log.now stored.old tables.old online.old pool.now) page min_del max_age) result
         (areas fixed.now marks.new log.now stored.new tables.new online.new pool.now) }
 {
-    let v = verdict::judge_compact(
-        fixed, marks, log, stored, tables, online, pool, page, min_del, max_age,
-    );
-    match v {
-        Verdict::Refuse(why) => crate::answer::refused(why),
-        Verdict::Go => {
-            let c = compact::compact_step(
+    let lent = Areas {
+        fixed,
+        marks: &*marks,
+        log,
+        stored: &*stored,
+        tables: &*tables,
+        online: &*online,
+        pool,
+    };
+    match verdict::judge_compact(&lent, page, min_del, max_age) {
+        Err(why) => crate::answer::refused(why),
+        Ok(()) => {
+            let step = compact::compact_step(
                 fixed,
                 marks,
                 log,
@@ -39,11 +45,10 @@ pub fn ventarico_compact(
                 min_del as u64,
                 max_age as u64,
             );
-            // A step writes its page exactly where it was due.
-            if c.writes == 0 {
-                return crate::answer::not_due();
+            match step {
+                None => crate::answer::not_due(),
+                Some(c) => crate::answer::done(c.reads, c.writes, 0),
             }
-            crate::answer::done(c.reads, c.writes, 0)
         }
     }
 }

@@ -4,7 +4,7 @@ ghost use Rattle.rules.specs.Calls.{evict_call};
 ghost use Rattle.ventarico.specs.Said.{Told};
 
 use number::PageNo;
-use rules::{Reply, Verdict};
+use rules::{Areas, Reply};
 
 pub fn ventarico_evict(
     fixed: &[u8],
@@ -19,10 +19,18 @@ pub fn ventarico_evict(
     ensures { Told (evict_call (areas fixed.now marks.now log.now stored.now tables.old online.now pool.now) page) result
         (areas fixed.now marks.now log.now stored.now tables.new online.now pool.now) }
 {
-    let v = verdict::judge_evict(fixed, marks, log, stored, tables, online, pool, page);
-    match v {
-        Verdict::Refuse(why) => crate::answer::refused(why),
-        Verdict::Go => {
+    let lent = Areas {
+        fixed,
+        marks,
+        log,
+        stored,
+        tables: &*tables,
+        online,
+        pool,
+    };
+    match verdict::judge_evict(&lent, page) {
+        Err(why) => crate::answer::refused(why),
+        Ok(()) => {
             let p = PageNo(page as usize);
             steps::evict::evict(fixed, marks, log, stored, tables, online, pool, p);
             crate::answer::done(0, 0, 0)

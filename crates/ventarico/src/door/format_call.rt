@@ -4,7 +4,7 @@ ghost use Rattle.rules.specs.Areas.{areas};
 ghost use Rattle.rules.specs.Calls.{format_call};
 ghost use Rattle.ventarico.specs.Said.{Told};
 
-use rules::{Params, Reply, Verdict};
+use rules::{Areas, Params, Reply};
 
 pub fn ventarico_format(
     fixed: &mut [u8],
@@ -31,10 +31,18 @@ pub fn ventarico_format(
         online: online_size as u64,
         log: log_size as u64,
     };
-    let v = verdict::judge_format(fixed, marks, log, stored, tables, online, pool, g, last);
-    match v {
-        Verdict::Refuse(why) => crate::answer::refused(why),
-        Verdict::Go => {
+    let lent = Areas {
+        fixed: &*fixed,
+        marks: &*marks,
+        log: &*log,
+        stored,
+        tables: &*tables,
+        online: &*online,
+        pool,
+    };
+    match verdict::judge_format(&lent, g, last) {
+        Err(why) => crate::answer::refused(why),
+        Ok(()) => {
             format::format(
                 fixed,
                 marks,

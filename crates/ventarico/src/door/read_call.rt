@@ -5,7 +5,7 @@ ghost use Rattle.rules.specs.Calls.{read_call};
 ghost use Rattle.ventarico.specs.Said.{Told};
 
 use number::PageNo;
-use rules::{Reply, Verdict};
+use rules::{Areas, Reply};
 
 pub fn ventarico_read(
     fixed: &[u8],
@@ -25,12 +25,18 @@ pub fn ventarico_read(
         (areas fixed.now marks.now log.now stored.now tables.new online.now pool.new)) × (buffer.new ≡ (read_call (areas fixed.now marks.now log.now stored.now tables.old online.now pool.old) buffer.old number page offset length).buffer) }
 {
     let room = buffer.len();
-    let v = verdict::judge_read(
-        fixed, marks, log, stored, tables, online, pool, room, number, page, offset, length,
-    );
-    match v {
-        Verdict::Refuse(why) => crate::answer::refused(why),
-        Verdict::Go => {
+    let lent = Areas {
+        fixed,
+        marks,
+        log,
+        stored,
+        tables: &*tables,
+        online,
+        pool: &*pool,
+    };
+    match verdict::judge_read(&lent, room, number, page, offset, length) {
+        Err(why) => crate::answer::refused(why),
+        Ok(()) => {
             let reads = fetch::read(
                 fixed,
                 marks,

@@ -3,7 +3,7 @@ ghost use Rattle.rules.specs.Areas.{areas};
 ghost use Rattle.rules.specs.Calls.{restart_call};
 ghost use Rattle.ventarico.specs.Said.{Told};
 
-use rules::{Reply, Verdict};
+use rules::{Areas, Reply};
 
 pub fn ventarico_restart(
     fixed: &[u8],
@@ -17,10 +17,18 @@ pub fn ventarico_restart(
     ensures { Told (restart_call (areas fixed.now marks.now log.now stored.now tables.old online.old pool.now)) result
         (areas fixed.now marks.now log.now stored.now tables.new online.new pool.now) }
 {
-    let v = verdict::judge_restart(fixed, marks, log, stored, tables, online, pool);
-    match v {
-        Verdict::Refuse(why) => crate::answer::refused(why),
-        Verdict::Go => {
+    let lent = Areas {
+        fixed,
+        marks,
+        log,
+        stored,
+        tables: &*tables,
+        online: &*online,
+        pool,
+    };
+    match verdict::judge_restart(&lent) {
+        Err(why) => crate::answer::refused(why),
+        Ok(()) => {
             restart::restart(fixed, marks, log, stored, tables, online, pool);
             crate::answer::done(0, 0, 0)
         }

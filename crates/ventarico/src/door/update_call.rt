@@ -4,7 +4,7 @@ ghost use Rattle.rules.specs.Calls.{update_call};
 ghost use Rattle.ventarico.specs.Said.{Told};
 
 use number::PageNo;
-use rules::{Reply, Verdict};
+use rules::{Areas, Reply};
 
 pub fn ventarico_update(
     fixed: &[u8],
@@ -24,12 +24,18 @@ pub fn ventarico_update(
     ensures { Told (update_call (areas fixed.now marks.now log.now stored.now tables.old online.old pool.old) number page offset length kind value) result
         (areas fixed.now marks.now log.now stored.now tables.new online.new pool.new) }
 {
-    let v = verdict::judge_update(
-        fixed, marks, log, stored, tables, online, pool, number, page, offset, length, kind, value,
-    );
-    match v {
-        Verdict::Refuse(why) => crate::answer::refused(why),
-        Verdict::Go => {
+    let lent = Areas {
+        fixed,
+        marks,
+        log,
+        stored,
+        tables: &*tables,
+        online: &*online,
+        pool: &*pool,
+    };
+    match verdict::judge_update(&lent, number, page, offset, length, kind, value) {
+        Err(why) => crate::answer::refused(why),
+        Ok(()) => {
             let reads = fetch::update(
                 fixed,
                 marks,

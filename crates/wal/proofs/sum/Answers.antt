@@ -1,12 +1,8 @@
-use Rattle.std.proofs.Common.{rules}
-use Rattle.wal.proofs.Laws.{sum_none, sum_turn, sum_done}
+use Rattle.wal.proofs.Laws.{sum_turn, sum_done}
 use Rattle.wal.proofs.sum.Goals as goal
 
-pub loop-i-init : goal.loop-i-init
-loop-i-init c = (search rules, sum_none _ _ _ _ _)
-
 pub loop-i-preserved : goal.loop-i-preserved
-loop-i-preserved c = (search rules, sum_turn _ _ _ _ _ _ _ _ _ _ c.loop-i-test.true c.word_at-x.ensures c.word_at-y.ensures c.with_pair-sums.ensures c.loop-i.invariant.1)
+loop-i-preserved c = sum_turn _ _ _ _ _ _ _ _ _ _ c.loop-i-test.true c.word_at-x.ensures c.word_at-y.ensures c.with_pair-sums.ensures c.loop-i.invariant
 
 pub returns : goal.returns
-returns c = sum_done _ _ _ _ _ _ _ c.loop-i-test.false c.loop-i.invariant.1
+returns c = sum_done _ _ _ _ _ _ _ c.loop-i-test.false c.loop-i.invariant

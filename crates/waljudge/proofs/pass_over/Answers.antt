@@ -1,22 +1,41 @@
-use native.Mathlib.Omega.{arith}
-use Prim.Native.Nat.{◌-◌}
-use mathlib.Core.Path.{◌≡◌}
-use lib.ListN.{length}
-use Rattle.wal.specs.Layout.{valid_frames}
-use Rattle.waljudge.proofs.Turns.{turn, turn_few, stop, done}
-use borrow.Author.Rules.{rules}
+use Rattle.std.proofs.Common.{◌≡◌, sym, ap, ◌∙◌, arith, rules}
+use Rattle.std.specs.Slice.Iter.{chunks_exact_rest}
+use Rattle.waljudge.specs.Pass.{started}
+use Rattle.waljudge.proofs.Turns.{rest_all, begun, frame_fits, rest_is, turn, turn_few, stop, done}
 use Rattle.waljudge.proofs.pass_over.Goals as goal
 
-pub loop-at-init : goal.loop-at-init
-unfolding valid_frames
-loop-at-init c = (search rules, search rules, let n : length c.args.file.now - 0 ≡ length c.args.file.now = omega arith in rw n)
+pub loop-f-init : goal.loop-f-init
+loop-f-init c =
+    let d = c.default-a.ensures in
+    let s : c.default-a.result ≡ started = λ i. record { frames = d.0 i; end = d.1.0 i; at = d.1.1.0 i; pending = d.1.1.1 i } in record {
+      few = rw s (omega arith);
+      within = search rules;
+      size = search rules;
+      rest = ap chunks_exact_rest c.into_iter-f-iterator.ensures.into_iter_gives ∙ c.chunks_exact-f-items.ensures.rest ∙ rest_all 32 c.args.file.now;
+      left = begun _ _ _ _ s;
+    }
 
-pub returns-in-Stop : goal.returns-in-Stop
-returns-in-Stop c = stop _ _ _ _ _ _ _ _ c.look.ensures c.in-Stop.is c.loop-at.invariant.2
+pub loop-f-preserved : goal.loop-f-preserved
+loop-f-preserved c =
+    let i = c.loop-f.invariant in
+    let y = c.in-Some.ensures.steps in
+    let e = sym i.rest ∙ y.1.0 in
+    let n = y.1.1 ∙ i.size in record {
+      few = turn_few _ _ _ _ _ _ _ i.few (omega arith) c.with-a.ensures;
+      within = frame_fits c.args.h _ _ _ _ e n i.within;
+      size = y.0 ∙ i.size;
+      rest = rest_is c.args.h _ _ _ _ e n;
+      left = turn _ _ _ _ _ e n _ _ _ _ _ _ i.few i.within (sym c.look.ensures ∙ c.in-Some-look.is) c.with-a.ensures i.left;
+    }
 
-pub loop-at-preserved : goal.loop-at-preserved
-loop-at-preserved c = let o = c.loop-at.invariant in
-    (turn_few _ _ _ _ _ _ _ _ o.0 (omega arith) c.with-a.ensures, search rules, turn _ _ _ _ _ _ _ _ _ _ _ _ o.0 o.1 c.loop-at-test.true c.look.ensures c.in-Valid.is c.with-a.ensures o.2)
+pub returns-in_default : goal.returns-in_default
+returns-in_default c =
+    let i = c.loop-f.invariant in
+    let y = c.in-Some.ensures.steps in
+    stop _ _ _ _ _ (sym i.rest ∙ y.1.0) (y.1.1 ∙ i.size) _ _ _ _ (sym c.look.ensures ∙ c.in_default.is) i.left
 
-pub returns : goal.returns
-returns c = done _ _ _ _ _ _ _ c.loop-at.invariant.1 c.loop-at-test.false c.loop-at.invariant.2
+pub returns-in-None : goal.returns-in-None
+returns-in-None c =
+    let i = c.loop-f.invariant in
+    let y = c.in-None.ensures.steps in
+    done _ _ _ _ _ _ _ (rw (← i.rest, ← i.size) y.1.0) i.within i.left

@@ -1,16 +1,11 @@
-use mathlib.Core.Path.{refl}
-use Rattle.walwrite.proofs.Laws.{below_turn, below_stop, below_done}
-use borrow.Author.Rules.{rules}
+use Rattle.std.proofs.Common.{ℕ, ltb, ◌∙◌, rules, tests}
+use Rattle.std.proofs.lemmas.Iterator.{YieldsList-from_slice}
+use Rattle.std.proofs.lemmas.Iterator.Search.{all_from_yields_List}
+use Rattle.walwrite.proofs.Laws.{all_every}
 use Rattle.walwrite.proofs.all_below.Goals as goal
 
-pub loop-i-init : goal.loop-i-init
-loop-i-init c = (search rules, refl)
-
-pub returns-then-pages-list : goal.returns-then-pages-list
-returns-then-pages-list c = below_stop _ _ _ _ c.loop-i-test.true c.if-pages-list.true c.loop-i.invariant.1
-
-pub loop-i-preserved : goal.loop-i-preserved
-loop-i-preserved c = (search rules, below_turn _ _ _ _ c.loop-i-test.true c.if-pages-list.false c.loop-i.invariant.1)
-
 pub returns : goal.returns
-returns c = below_done _ _ _ _ c.loop-i-test.false c.loop-i.invariant.1
+returns c =
+    let a = c.args in
+    all_from_yields_List (λ (p : ℕ). ltb p a.pages) _ _ _ c.all.ensures.ran (YieldsList-from_slice a.list.now c.iter.ensures.rest) (λ x b q k. search (rules, tests))
+    ∙ all_every (λ (p : ℕ). ltb p a.pages) a.list.now

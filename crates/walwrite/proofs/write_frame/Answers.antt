@@ -1,5 +1,5 @@
-use Rattle.walwrite.proofs.Laws.{frame_image}
 use native.Mathlib.Omega.{arith}
+use Rattle.walwrite.proofs.Laws.{frame_image}
 use Rattle.walwrite.proofs.write_frame.Goals as goal
 
 pub returns : goal.returns

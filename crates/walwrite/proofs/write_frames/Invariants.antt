@@ -7,7 +7,9 @@ use Rattle.walwrite.specs.Image.{image_in}
 use Rattle.walwrite.proofs.write_frames.Given as goal
 
 abbrev pub invariant-loop-i : goal.invariant-loop-i
-invariant-loop-i l = (l.i ≤ length l.list) × (l.at + (length l.list - l.i) * (24 + l.h.size) ≤ length l.initial.target) × (length l.target ≡ length l.initial.target) × (take l.at l.target ++ frames_bytes l.h (image_in l.h.size l.stored l.online l.m) l.count (drop l.i l.list) l.sums ≡ take 32 l.initial.target ++ frames_bytes l.h (image_in l.h.size l.stored l.online l.m) l.count l.list l.h.sums) × (drop l.at l.target ≡ drop l.at l.initial.target)
-
-abbrev pub decreases-loop-i : goal.decreases-loop-i
-decreases-loop-i l = length l.list - l.i
+invariant-loop-i l = record {
+  room : l.at + (length l.list - l.i) * (24 + l.pages.size) ≤ length l.initial.target;
+  kept : length l.target ≡ length l.initial.target;
+  written : take l.at l.target ++ frames_bytes l.h (image_in l.pages.size l.pages.stored.now l.pages.online.now) l.pages.count (drop l.i l.list) l.sums ≡ take 32 l.initial.target ++ frames_bytes l.h (image_in l.pages.size l.pages.stored.now l.pages.online.now) l.pages.count l.list l.h.sums;
+  behind : drop l.at l.target ≡ drop l.at l.initial.target;
+}

@@ -8,7 +8,7 @@ unfolding checksum
 loop-at-init c = (search rules, search rules, refl)
 
 pub loop-at-preserved : goal.loop-at-preserved
-loop-at-preserved c = (search rules, search rules, sum_turn _ _ _ _ _ _ c.loop-at-test.true c.wide.ensures.0 c.wrapping_add_u32-sum.ensures.value c.loop-at.invariant.2)
+loop-at-preserved c = (search rules, search rules, sum_turn _ _ _ _ _ _ c.loop-at-test.true c.from-sum.ensures refl c.loop-at.invariant.2)
 
 pub returns : goal.returns
 returns c = sum_done _ _ _ _ c.loop-at-test.false c.loop-at.invariant.1 c.loop-at.invariant.2

@@ -1,10 +1,6 @@
 -- i records are behind, and what is left of the run is that of the bytes ahead.
-use Prim.Native.Nat.{◌-◌}
 use Rattle.journalplay.proofs.Looks.{Ahead}
 use Rattle.journalplay.proofs.look.look.Given as goal
 
 abbrev pub invariant-loop-i : goal.invariant-loop-i
-invariant-loop-i l = Ahead l.n l.nonce l.size l.pages l.body l.i l.at
-
-abbrev pub decreases-loop-i : goal.decreases-loop-i
-decreases-loop-i l = l.n - l.i
+invariant-loop-i l = Ahead l.n l.nonce l.size l.pages l.body l.i

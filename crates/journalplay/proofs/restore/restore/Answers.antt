@@ -1,4 +1,3 @@
-use native.Mathlib.Omega.{arith}
 use Rattle.journalplay.proofs.Restores.{left_all, left_none, left_whole, left_inside, left_turn}
 use Rattle.journalplay.proofs.restore.restore.Goals as goal
 
@@ -9,17 +8,11 @@ pub restore_one-requires : goal.restore_one-requires
 restore_one-requires c =
     let a = c.loop-i.invariant in
     let h = c.loop-i-test.true in
-    let w = left_inside _ _ _ _ _ _ _ a h in
-    (left_whole _ _ _ _ _ _ _ a h, w.0, w.1)
-
-pub overflow_add-at : goal.overflow_add-at
-overflow_add-at c = omega (arith, (left_whole _ _ _ _ _ _ _ c.loop-i.invariant c.loop-i-test.true))
+    let w = left_inside _ _ _ _ _ _ a h in
+    (left_whole _ _ _ _ _ _ a h, w.0, w.1)
 
 pub loop-i-preserved : goal.loop-i-preserved
-loop-i-preserved c = left_turn _ _ _ _ _ _ _ c.loop-i.invariant c.loop-i-test.true _ c.restore_one.ensures
-
-pub shape_of-pages : goal.shape_of-pages
-shape_of-pages c = c.loop-i.invariant.long
+loop-i-preserved c = left_turn _ _ _ _ _ _ c.loop-i.invariant c.loop-i-test.true _ c.restore_one.ensures
 
 pub returns : goal.returns
-returns c = left_none _ _ _ _ _ _ _ c.loop-i.invariant c.loop-i-test.false
+returns c = left_none _ _ _ _ _ _ c.loop-i.invariant c.loop-i-test.false

@@ -1,23 +1,10 @@
-use native.Mathlib.Omega.{arith}
-use mathlib.Core.Path.{refl, sym, ◌∙◌}
-use Rattle.journalwrite.proofs.Lists.{past_hit, past_turn, past_end}
-use borrow.Author.Rules.{rules}
+-- The call's result is the definition's, page by page.
+use Rattle.std.proofs.Common.{◌+◌, ◌*◌, nat_lt, rules, tests}
+use Rattle.std.proofs.lemmas.Iterator.{YieldsList-from_slice}
+use Rattle.std.proofs.lemmas.Iterator.Search.{any_from_yields_List}
+use Rattle.journal.specs.Writing.{any_past}
 use Rattle.journalwrite.proofs.list.any_past.Goals as goal
 
-pub loop-i-init : goal.loop-i-init
-loop-i-init c = (search rules, refl)
-
-pub returns-then-lent-page_end : goal.returns-then-lent-page_end
-returns-then-lent-page_end c =
-    let a = c.args in
-    past_hit a.lent a.size a.list.now c.loop-i.i c.loop-i-test.true (omega (arith, c.page_end.ensures, c.if-lent-page_end.true)) ∙ c.loop-i.invariant.1
-
-pub loop-i-preserved : goal.loop-i-preserved
-loop-i-preserved c =
-    let a = c.args in
-    (search rules, past_turn a.lent a.size a.list.now c.loop-i.i c.loop-i-test.true (omega (arith, c.page_end.ensures, c.if-lent-page_end.false)) ∙ c.loop-i.invariant.1)
-
 pub returns : goal.returns
-returns c =
-    let a = c.args in
-    sym (past_end a.lent a.size a.list.now c.loop-i.i c.loop-i-test.false) ∙ c.loop-i.invariant.1
+unfolding any_past
+returns c = any_from_yields_List (λ p. nat_lt c.args.lent ((p + 1) * c.args.size)) _ _ _ c.any.ensures.ran (YieldsList-from_slice c.args.list.now cc) (λ x b q k. search (rules, tests))

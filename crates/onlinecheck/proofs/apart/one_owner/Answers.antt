@@ -1,30 +1,26 @@
-use borrow.Author.Rules.{rules}
-use Prim.Native.Nat.{ℕ, ◌-◌}
-use native.Mathlib.Omega.{arith}
-use mathlib.Core.Path.{◌≡◌}
-use Rattle.onlinecheck.proofs.Laws.{one_none, one_committed, one_owned, one_done}
+-- `onlinecheck::apart::one_owner` meets its contract: rows of one owner, and committed ones, are apart.
+use Prim.Native.Nat.{◌+◌}
+use Rattle.std.proofs.Common.{◌-◌, ◌≡◌, length, take, drop, rules, tests, sym, ◌∙◌}
+use Rattle.std.proofs.lemmas.Iterator.{YieldsList-from_slice}
+use Rattle.std.proofs.lemmas.Iterator.Search.{all_from_yields_List, position_from_yields_List}
+use Rattle.rules.specs.Sound.{every}
+use Rattle.durable.proofs.Laws.{every_listed, rest_lent}
+use Rattle.onlinecheck.proofs.Laws.{of_one, is_open, open_first, none_open, first_open}
 use Rattle.onlinecheck.proofs.apart.one_owner.Goals as goal
+use Rattle.onlinecheck.proofs.apart.one_owner.Goals.{After-position}
 
-pub loop-i-init : goal.loop-i-init
-loop-i-init c = (search rules, one_none c.args.t.now c.args.m)
+first : (c : After-position) → c.position.result ≡ open_first c.args.online.now
+first c = position_from_yields_List is_open _ _ _ c.position.ensures.ran (YieldsList-from_slice c.args.online.now c.iter.ensures.rest) (λ x b q k. search (rules, tests))
 
-pub returns-then-x-mine : goal.returns-then-x-mine
-returns-then-x-mine c = λ k. let y : ◌≡◌ {A = ℕ} 0 1 = cc in absurd (omega arith)
-
-pub loop-i-preserved-then-x-ne0 : goal.loop-i-preserved-then-x-ne0
-loop-i-preserved-then-x-ne0 c =
-    let a = c.args in
-    let h = c.loop-i in
-    (search rules, one_owned a.t.now a.m h.i (h.i - 1) h.mine _ (omega arith) h.invariant.0 c.owner_of-x.ensures c.if-x-ne0.true c.if-x-mine.false h.invariant.1)
-
-pub loop-i-preserved : goal.loop-i-preserved
-loop-i-preserved c =
-    let a = c.args in
-    let h = c.loop-i in
-    (search rules, one_committed a.t.now a.m h.i (h.i - 1) h.mine _ (omega arith) h.invariant.0 c.owner_of-x.ensures c.if-x-ne0.false h.invariant.1)
+pub returns-in_default : goal.returns-in_default
+returns-in_default c = λ h. none_open c.args.online.now (sym (first (goal.at.returns-in_default c).After-position) ∙ c.in_default.is)
 
 pub returns : goal.returns
 returns c =
-    let a = c.args in
-    let h = c.loop-i in
-    λ k. one_done a.t.now a.m h.i h.mine c.loop-i-test.false h.invariant.1
+    let l = c.args.online.now in
+    let i = c.in-Some.i in
+    let x = c.owner_of-x.result in
+    let e = sym (first (goal.at.returns c).After-position) ∙ c.in-Some.is in
+    let later = take (length l - (i + 1)) (drop (i + 1) l) in
+    let o : c.all.result ≡ every (of_one x) later = all_from_yields_List (of_one x) _ _ _ c.all.ensures.ran (YieldsList-from_slice later c.iter-2.ensures.rest) (λ y b q k. search (rules, tests)) ∙ every_listed (of_one x) later in
+    λ h. first_open l i x e c.owner_of-x.ensures (rw (rest_lent l (i + 1)) at (sym o ∙ h))

@@ -1,12 +1,7 @@
--- `onlinecheck::dirty::mark_pages` meets its contract: the rows still to come make of the marks what all of them make of those at entry.
-use Prim.Native.Nat.{◌-◌, ◌≤◌}
-use mathlib.Core.Path.{◌≡◌}
-use Rattle.record.specs.Rows.{rows}
-use Rattle.table.specs.Marks.{mark_pages}
+-- `onlinecheck::dirty::mark_pages` meets its contract: the marks so far and the rows still to come mark what all rows mark.
+use Rattle.std.proofs.Common.{ℕ, ◌<◌, ◌≡◌, drop}
+use Rattle.onlinecheck.specs.Marks.{marked_or_on}
 use Rattle.onlinecheck.proofs.dirty.mark_pages.Given as goal
 
-abbrev pub invariant-loop-i : goal.invariant-loop-i
-invariant-loop-i l = (l.i ≤ l.m) × (mark_pages (rows 19 (l.m - l.i) l.t l.i) l.marks ≡ mark_pages (rows 19 l.m l.t 0) l.initial.marks)
-
-abbrev pub decreases-loop-i : goal.decreases-loop-i
-decreases-loop-i l = l.m - l.i
+abbrev pub invariant-loop-row : goal.invariant-loop-row
+invariant-loop-row l = (p : ℕ) → p < 1024 → marked_or_on l.marks (drop l.row-index l.online) p ≡ marked_or_on l.initial.marks l.online p

@@ -1,16 +1,7 @@
 -- `steps::abort::abort` meets its contract: sizes and count are those of the lent bytes, and of all the areas the tables and the online rows alone change.
-use native.Mathlib.Omega.{arith}
 use Rattle.rules.specs.Areas.{areas}
 use Rattle.rules.specs.Steps.{lost_now, aborted}
 use Rattle.steps.proofs.abort.abort.Goals as goal
-
-pub params_of-given-requires : goal.params_of-given-requires
-params_of-given-requires c = c.requires.0.sized.fixed
-
-pub take_back-requires : goal.take_back-requires
-take_back-requires c =
-    let g = c.params_of-given.ensures in
-    omega (arith, g.frames, g.online, c.load-m.ensures.0, c.requires.0, c.requires.1)
 
 pub returns : goal.returns
 unfolding aborted

@@ -1,11 +1,7 @@
 -- `steps::begin::begin` meets its contract: of all the areas the tables alone change.
-use native.Mathlib.Omega.{arith}
 use Rattle.rules.specs.Areas.{areas}
 use Rattle.rules.specs.Steps.{lost_now, begun}
 use Rattle.steps.proofs.begin.begin.Goals as goal
-
-pub make_live-requires : goal.make_live-requires
-make_live-requires c = (omega (arith, c.requires.0.sized.marks), omega (arith, c.requires.0.sized.tables), c.requires.1, c.requires.2)
 
 pub returns : goal.returns
 unfolding begun

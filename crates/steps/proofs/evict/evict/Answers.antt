@@ -1,17 +1,7 @@
 -- `steps::evict::evict` meets its contract: the frames are those of the parameters, and of all the areas the tables alone change.
-use native.Mathlib.Omega.{arith}
 use Rattle.rules.specs.Areas.{areas}
 use Rattle.rules.specs.Steps.{lost_now, evicted}
 use Rattle.steps.proofs.evict.evict.Goals as goal
-
-pub params_of-given-requires : goal.params_of-given-requires
-params_of-given-requires c = c.requires.0.sized.fixed
-
-pub vacate-requires : goal.vacate-requires
-vacate-requires c =
-    let frames = c.params_of-given.ensures.frames in
-    let shape = c.requires.0 in
-    (omega (arith, frames, c.requires.1, shape.sized.tables), omega (arith, frames, shape.used), omega (arith, frames, shape.sized.frames), rw frames c.requires.2)
 
 pub returns : goal.returns
 unfolding evicted

@@ -1,25 +1,14 @@
 use native.Mathlib.Omega.{arith}
-use mathlib.Core.Path.{refl}
-use Rattle.table.proofs.Moves.{slide_stays, slide_start, slide_join, slide_most}
+use Rattle.table.proofs.Moves.{slide_join, slide_most}
 use borrow.Author.Rules.{rules}
 use Rattle.table.proofs.bytes.slide.Goals as goal
-
-pub returns-then-to-from : goal.returns-then-to-from
-returns-then-to-from c =
-    let a = c.args in
-    slide_stays a.s.now a.from a.to a.n c.if-to-from.true
-
-pub loop-i-init : goal.loop-i-init
-loop-i-init c =
-    let a = c.args in
-    (search rules, slide_start a.s.now a.from a.to, refl)
 
 pub loop-i-preserved : goal.loop-i-preserved
 loop-i-preserved c =
     let a = c.args in
     let at = c.loop-i in
     let test = c.loop-i-test in
-    (search rules, slide_join a.s.now at.s _ a.from a.to at.i 64 c.requires.0 (omega (arith, c.requires.1, test.true)) at.invariant.1 c.slide_block.ensures, search rules)
+    (search rules, slide_join a.s.now at.s _ a.from a.to at.i 64 c.requires.0 (omega (arith, c.requires.1, test.true)) at.invariant.1 c.slide_block.ensures)
 
 pub returns : goal.returns
 returns c =

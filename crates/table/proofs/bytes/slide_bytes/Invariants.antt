@@ -1,12 +1,7 @@
 -- The first i bytes are moved; each is read before it is written over.
-use Prim.Native.Nat.{◌-◌, ◌≤◌}
 use mathlib.Core.Path.{◌≡◌}
-use lib.ListN.{length}
 use Rattle.record.specs.Part.{part, with_part}
 use Rattle.table.proofs.bytes.slide_bytes.Given as goal
 
 abbrev pub invariant-loop-i : goal.invariant-loop-i
-invariant-loop-i l = (l.i ≤ l.n) × (l.s ≡ with_part l.to l.i l.initial.s (part l.from l.i l.initial.s)) × (length l.s ≡ length l.initial.s)
-
-abbrev pub decreases-loop-i : goal.decreases-loop-i
-decreases-loop-i l = l.n - l.i
+invariant-loop-i l = l.s ≡ with_part l.to l.i l.initial.s (part l.from l.i l.initial.s)

@@ -5,37 +5,32 @@ use Rattle.rules.specs.Calls.{compact_call}
 use Rattle.rules.specs.Steps.{compact_step, compacted}
 use Rattle.sound.proofs.Laws.{sound_shaped}
 use Rattle.rules.proofs.Went.{compact_went}
-use Rattle.ventarico.proofs.Laws.{was_due, was_not_due}
 use Rattle.ventarico.proofs.door.compact_call.ventarico_compact.Goals as goal
 
 -- what the step asks for, by the tests that it passed
-pub compact_step-c-requires : goal.compact_step-c-requires
-compact_step-c-requires c =
+pub compact_step-step-requires : goal.compact_step-step-requires
+compact_step-step-requires c =
     let a = c.args in
-    let w = compact_went (areas c.args.fixed.now c.args.marks.now c.args.log.now c.args.stored.now c.args.tables.now c.args.online.now c.args.pool.now) a.page a.min_del a.max_age (sym c.judge_compact-v.ensures ∙ c.in-Go.is) in
+    let w = compact_went (areas c.args.fixed.now c.args.marks.now c.args.log.now c.args.stored.now c.args.tables.now c.args.online.now c.args.pool.now) a.page a.min_del a.max_age (sym c.judge_compact.ensures ∙ c.in-Ok.is) in
     (sound_shaped (areas c.args.fixed.now c.args.marks.now c.args.log.now c.args.stored.now c.args.tables.now c.args.online.now c.args.pool.now) w.0, w.1)
 
--- nothing was written, so compact was not due
-pub returns-then-c-eq0 : goal.returns-then-c-eq0
+-- no step, so compact was not due
+pub returns-in-None : goal.returns-in-None
 unfolding compact_call compact_step
-returns-then-c-eq0 c =
-    let a = c.args in
-    let did = c.compact_step-c.ensures in
-    let undue = was_not_due (areas c.args.fixed.now c.args.marks.now c.args.log.now c.args.stored.now c.args.tables.now c.args.online.now c.args.pool.now) a.page a.min_del a.max_age _ did.writes c.if-c-eq0.true in
-    rw ((sym c.judge_compact-v.ensures ∙ c.in-Go.is), undue) (record { reply = c.not_due.ensures; lent = rw undue at did.lent })
+returns-in-None c =
+    let did = c.in-None.ensures in
+    rw ((sym c.judge_compact.ensures ∙ c.in-Ok.is), sym did.due) (record { reply = c.not_due.ensures; lent = rw (sym did.due) at did.lent })
 
 -- a refusal: its reply, and every byte as it was
-pub returns-in-Refuse : goal.returns-in-Refuse
+pub returns-in-Err : goal.returns-in-Err
 unfolding compact_call
-returns-in-Refuse c = rw (sym c.judge_compact-v.ensures ∙ c.in-Refuse.is) (record { reply = c.refused.ensures; lent = refl })
+returns-in-Err c = rw (sym c.judge_compact.ensures ∙ c.in-Err.is) (record { reply = c.refused.ensures; lent = refl })
 
--- a page was written, so it was due
-pub returns-else-c-eq0 : goal.returns-else-c-eq0
+-- a step, so it was due
+pub returns-in-Some : goal.returns-in-Some
 unfolding compact_call compact_step compacted
-returns-else-c-eq0 c =
-    let a = c.args in
-    let did = c.compact_step-c.ensures in
-    let is_due = was_due (areas c.args.fixed.now c.args.marks.now c.args.log.now c.args.stored.now c.args.tables.now c.args.online.now c.args.pool.now) a.page a.min_del a.max_age _ did.writes c.if-c-eq0.false in
-    let compacting = rw is_due at did in
-    rw ((sym c.judge_compact-v.ensures ∙ c.in-Go.is), is_due)
+returns-in-Some c =
+    let did = c.in-Some.ensures in
+    let compacting = rw (sym did.due) at did in
+    rw ((sym c.judge_compact.ensures ∙ c.in-Ok.is), sym did.due)
     (record { reply = rw (compacting.reads, compacting.writes) at c.done.ensures; lent = compacting.lent })

@@ -13,20 +13,20 @@ use Rattle.ventarico.proofs.door.format_call.ventarico_format.Goals as goal
 pub format-requires : goal.format-requires
 format-requires c =
     let a = c.args in
-    let w = format_went (areas c.args.fixed.now c.args.marks.now c.args.log.now c.args.stored.now c.args.tables.now c.args.online.now c.args.pool.now) ((given c.args.page_size c.args.pages c.args.frames c.args.online_size c.args.log_size)) a.last (sym c.judge_format-v.ensures ∙ c.in-Go.is) in (
+    let w = format_went (areas c.args.fixed.now c.args.marks.now c.args.log.now c.args.stored.now c.args.tables.now c.args.online.now c.args.pool.now) ((given c.args.page_size c.args.pages c.args.frames c.args.online_size c.args.log_size)) a.last (sym c.judge_format.ensures ∙ c.in-Ok.is) in (
       w.1,
       (lengths_marks (areas c.args.fixed.now c.args.marks.now c.args.log.now c.args.stored.now c.args.tables.now c.args.online.now c.args.pool.now) ((given c.args.page_size c.args.pages c.args.frames c.args.online_size c.args.log_size)) {r = true} (sym w.2) refl).0,
       (ranged ((given c.args.page_size c.args.pages c.args.frames c.args.online_size c.args.log_size)) w.0).pages_most,
     )
 
 -- a refusal: its reply, and every byte as it was
-pub returns-in-Refuse : goal.returns-in-Refuse
+pub returns-in-Err : goal.returns-in-Err
 unfolding format_call
-returns-in-Refuse c = rw (sym c.judge_format-v.ensures ∙ c.in-Refuse.is) (record { reply = c.refused.ensures; lent = refl })
+returns-in-Err c = rw (sym c.judge_format.ensures ∙ c.in-Err.is) (record { reply = c.refused.ensures; lent = refl })
 
 -- go: what the step counted and left
-pub returns-in-Go : goal.returns-in-Go
+pub returns-in-Ok : goal.returns-in-Ok
 unfolding format_call formatted
-returns-in-Go c =
-    rw (sym c.judge_format-v.ensures ∙ c.in-Go.is)
+returns-in-Ok c =
+    rw (sym c.judge_format.ensures ∙ c.in-Ok.is)
     (record { reply = c.done.ensures; lent = c.format.ensures })

@@ -12,18 +12,18 @@ use Rattle.ventarico.proofs.door.read_call.ventarico_read.Goals as goal
 pub read-reads-requires : goal.read-reads-requires
 read-reads-requires c =
     let a = c.args in
-    let w = read_went (areas c.args.fixed.now c.args.marks.now c.args.log.now c.args.stored.now c.args.tables.now c.args.online.now c.args.pool.now) (length a.buffer.now) a.number a.page a.offset a.length (sym c.judge_read-v.ensures ∙ c.in-Go.is) in
+    let w = read_went (areas c.args.fixed.now c.args.marks.now c.args.log.now c.args.stored.now c.args.tables.now c.args.online.now c.args.pool.now) (length a.buffer.now) a.number a.page a.offset a.length (sym c.judge_read.ensures ∙ c.in-Ok.is) in
     (sound_shaped (areas c.args.fixed.now c.args.marks.now c.args.log.now c.args.stored.now c.args.tables.now c.args.online.now c.args.pool.now) w.0, w.1, w.2, w.3)
 
 -- a refusal: its reply, and every byte as it was
-pub returns-in-Refuse : goal.returns-in-Refuse
+pub returns-in-Err : goal.returns-in-Err
 unfolding read_call
-returns-in-Refuse c = rw (sym c.judge_read-v.ensures ∙ c.in-Refuse.is) (record { reply = c.refused.ensures; lent = refl }, refl)
+returns-in-Err c = rw (sym c.judge_read.ensures ∙ c.in-Err.is) (record { reply = c.refused.ensures; lent = refl }, refl)
 
 -- go: what the step counted and left
-pub returns-in-Go : goal.returns-in-Go
+pub returns-in-Ok : goal.returns-in-Ok
 unfolding read_call read_step
-returns-in-Go c =
+returns-in-Ok c =
     let did = c.read-reads.ensures in
-    rw (sym c.judge_read-v.ensures ∙ c.in-Go.is)
+    rw (sym c.judge_read.ensures ∙ c.in-Ok.is)
     (record { reply = rw did.reads at c.done.ensures; lent = did.lent }, did.buffer)

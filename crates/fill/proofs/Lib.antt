@@ -1,2 +1,0 @@
--- What the proof of `copy` cites.
-pub mod Laws

@@ -1,8 +1,0 @@
--- The part lent to `wipe` comes back as zeros, behind the fields.
-use Rattle.journalwrite.proofs.Fills.{padded}
-use Rattle.journalwrite.proofs.fill.put_header.Goals as goal
-
-pub returns : goal.returns
-returns c =
-    let a = c.args in
-    padded a.count a.nonce a.pages a.sector a.size a.target.now _ _ c.requires.0 c.requires.1 c.put_fields.ensures c.wipe.ensures
