@@ -2,7 +2,7 @@
 // One walk marks the pages that have a committed online record; the others are passed over, since compact is not due for them.
 #![tactic(auto)]
 
-ghost use Rattle.std.specs.Prelude.{◌≡◌, ◌*◌, ◌≤◌, ◌<◌, length};
+ghost use Rattle.std.specs.Prelude.{◌≡◌, ◌≤◌, ◌<◌};
 ghost use Rattle.record.specs.Rows.{keep};
 ghost use Rattle.record.specs.Record.{committed};
 ghost use Rattle.rules.specs.Lent.{pages_of, last_of, logged_of};
@@ -15,6 +15,7 @@ ghost use Rattle.checkpoint.specs.Noted.{Noted};
 ghost use Rattle.checkpoint.specs.Halfway.{Halfway};
 
 use compact::Compacted;
+use layout::read;
 use number::PageNo;
 use record::row;
 use record::row::OnlineRow;
@@ -113,7 +114,7 @@ pub fn checkpoint(
     ensures writes { result.writes ≡ (checkpointed min_del max_age (areas fixed.now marks.old log.old stored.old tables.old online.old pool.now)).writes }
     ensures lent { areas fixed.now marks.new log.new stored.new tables.new online.new pool.now ≡ (checkpointed min_del max_age (areas fixed.now marks.old log.old stored.old tables.old online.old pool.now)).lent }
 {
-    let m = word::load(tables, layout::COUNT_AT, 2) as usize;
+    let m = read::count_of(tables);
     let mut seen = [0u8; 1024];
     mark_committed(&mut seen, row::first_rows(online, m));
     let d = compact_all(

@@ -114,13 +114,12 @@ fn dropped(marks: &[u8], x: u64) -> usize
     requires { (stamps_at ≤ length marks.now) × (logged_in marks.now ≤ last_in marks.now) }
     ensures { result ≡ min (logged_in marks.now) (cond (eqb x 0) (logged_in marks.now) (x - (last_in marks.now - logged_in marks.now + 1))) }
 {
-    let last = read::last_of(marks);
     let n = read::logged_of(marks);
-    let first = last.0 - n as u64 + 1;
+    let first = read::first_of(marks);
     if x == 0 {
         n
     } else {
-        n.min(x.saturating_sub(first) as usize)
+        n.min(x.saturating_sub(first.0) as usize)
     }
 }
 

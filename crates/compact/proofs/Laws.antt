@@ -2,7 +2,7 @@
 use Prim.Native.Nat.{ℕ, ◌+◌, ◌*◌, ◌-◌, ◌≤◌, ◌<◌}
 use native.Mathlib.Omega.{arith}
 use mathlib.Core.Path.{◌≡◌, refl, sym, ap, ◌∙◌}
-use mathlib.Core.Bool.{Bool, true, false, cond, not, ◌&&◌, ◌||◌, and-false}
+use mathlib.Core.Bool.{Bool, true, false, cond, not, ◌&&◌, ◌||◌}
 use mathlib.Core.List.{List}
 use lib.ListN.{length, get_or, take, drop, set}
 use lib.Dec.{leb}
@@ -24,9 +24,10 @@ use Rattle.std.specs.Prelude.{Option, Some, None, IfSome}
 use Rattle.number.specs.declared.FrameNo.{FrameNo}
 use Rattle.rules.specs.declared.Params.{Params}
 use Rattle.layout.specs.Read.{ParamsRead}
+use Rattle.frames.specs.Freed.{order_without}
 use Rattle.frames.proofs.Laws.{in_frame_placed}
 use Rattle.compact.specs.declared.Plan.{Plan}
-use Rattle.compact.specs.Planned.{Named, Planned, page_from, order_without}
+use Rattle.compact.specs.Planned.{Named, Planned, page_from}
 
 -- `compact_step`
 pub due_read : (fixed marks log stored tables online pool : List ℕ) (p min_del max_age m n least last a : ℕ) (r : Bool) → m ≡ num 2 tables 0

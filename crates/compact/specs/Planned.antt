@@ -1,7 +1,6 @@
 -- What a plan for a page says, and what its frames mean.
 use Rattle.std.specs.Prelude.{ℕ, ◌≡◌, Bool, true, false, cond, not, ◌&&◌, List, eqb, Option, Some, None, MatchOption}
 use Rattle.number.specs.declared.FrameNo.{FrameNo}
-use Rattle.order.specs.Order.{without}
 use Rattle.rules.specs.Lent.{in_frame, frame_of, clean_in, page_in}
 use Rattle.compact.specs.declared.Plan.{Plan}
 
@@ -21,8 +20,3 @@ pub record Planned (n all e most : ℕ) (r : Plan) : Type 0 where
 abbrev pub page_from : Option FrameNo → ℕ → List ℕ → List ℕ → List ℕ
 page_from (Some f) size pool x = page_in size f.0 pool
 page_from None size pool x = x
-
--- an order without a frame, if there is one
-abbrev pub order_without : Option FrameNo → List ℕ → List ℕ
-order_without (Some f) o = without f.0 o
-order_without None o = o

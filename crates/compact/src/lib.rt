@@ -2,22 +2,22 @@
 // What is to be done is decided on areas that are lent for reading; then it is done.
 #![tactic(auto)]
 
-ghost use Rattle.std.specs.Prelude.{◌≡◌, false, cond, not, ◌&&◌, ◌||◌, List, ℕ, ◌+◌, ◌*◌, ◌-◌, ◌/◌, ◌≤◌, ◌<◌, length, get_or, set, eqb, leb, is_some, IfSome};
+ghost use Rattle.std.specs.Prelude.{◌≡◌, false, cond, not, ◌&&◌, ◌||◌, ◌+◌, ◌*◌, ◌≤◌, ◌<◌, length, get_or, set, eqb, leb, is_some, IfSome};
 ghost use Rattle.record.specs.Part.{part};
 ghost use Rattle.record.specs.Rows.{rows, keep, table};
-ghost use Rattle.record.specs.Record.{online_width, on_page, committed_on, applied, gone, greatest};
-ghost use Rattle.order.specs.Order.{without};
+ghost use Rattle.record.specs.Record.{online_width, committed_on, applied};
 ghost use Rattle.table.specs.Stays.{stays};
 ghost use Rattle.table.specs.Seen.{Surveyed};
-ghost use Rattle.rules.specs.Lent.{order_at, fixed_length, used_in, pages_of, online_of, page_in, with_page, with_order, with_count, entry_at};
+ghost use Rattle.rules.specs.Lent.{order_at, used_in, pages_of, online_of, page_in, with_page, with_order, with_count, entry_at};
 ghost use Rattle.rules.specs.Areas.{areas};
 ghost use Rattle.rules.specs.Shape.{Shaped};
 ghost use Rattle.rules.specs.Steps.{due, compacted, compact_step};
-ghost use Rattle.compact.specs.Planned.{Planned, page_from, order_without};
+ghost use Rattle.frames.specs.Freed.{order_without};
+ghost use Rattle.compact.specs.Planned.{Planned, page_from};
 ghost use Rattle.compact.specs.Counted.{reads_of, writes_of};
 
+use layout::read;
 use number::{FrameNo, PageNo};
-use order::Order;
 use record::row;
 use record::row::OnlineRow;
 use table::page::Survey;
@@ -38,13 +38,6 @@ pub struct Plan {
     pub entry: u8,
     pub stamp: u64,
     pub reads: u32,
-}
-
-// How far the last number is past the smallest.
-fn age(last: u64, least: u64) -> u64
-    ensures { result ≡ last - least }
-{
-    last.saturating_sub(least)
 }
 
 // Due by the count of committed records, or by the age of the oldest.
@@ -125,22 +118,12 @@ fn write_page(
     apply::fold(online, p, true, &mut stored[a..e]);
 }
 
-// The order without the frame, if one is freed.
-fn freed_order(order: Order, frees: Option<FrameNo>) -> Order
-    ensures { result ≡ order_without frees order }
-{
-    match frees {
-        Some(f) => order.free(f),
-        None => order,
-    }
-}
-
 // The entry of page p, and the use order.
 fn write_entry(tables: &mut [u8], frames: usize, p: PageNo, entry: u8, frees: Option<FrameNo>)
     requires { (entry_at frames p.0 < length tables.old) × (used_in tables.old ≤ frames) × (frames ≤ 64) }
     ensures { tables.new ≡ with_order frames (order_without frees (part order_at (used_in tables.old) tables.old)) (set tables.old (entry_at frames p.0) entry) }
 {
-    let order = freed_order(frames::load_order(tables, frames), frees);
+    let order = frames::freed_order(frees, frames::load_order(tables, frames));
     let at = layout::ORDER_AT + frames + p.0;
     tables[at] = entry;
     frames::save_order(tables, frames, &order);
@@ -194,7 +177,7 @@ fn compact_by(
     let size = given.size as usize;
     let frames = given.frames as usize;
     let room = given.online as usize;
-    let m = word::load(tables, layout::COUNT_AT, 2) as usize;
+    let m = read::count_of(tables);
     let plan = plan_for(tables, frames, p, s);
     let rows = row::first_rows::<19>(online, m);
     write_page(stored, size, p, &rows[s.from..s.to], pool, plan.from);
@@ -225,10 +208,11 @@ pub fn compact_step(
     ensures writes { writes_of result ≡ (compact_step min_del max_age (areas fixed.now marks.old log.now stored.old tables.old online.old pool.now) p.0).writes }
     ensures lent { areas fixed.now marks.new log.now stored.new tables.new online.new pool.now ≡ (compact_step min_del max_age (areas fixed.now marks.old log.now stored.old tables.old online.old pool.now) p.0).lent }
 {
-    let m = word::load(tables, layout::COUNT_AT, 2) as usize;
+    let m = read::count_of(tables);
     let s = table::survey(row::first_rows(online, m), p);
-    let last = word::load(marks, layout::LAST_AT, 4);
-    if !due_by(s.committed as u64, age(last, s.least), min_del, max_age) {
+    let last = read::last_of(marks);
+    let age = last.0.saturating_sub(s.least);
+    if !due_by(s.committed as u64, age, min_del, max_age) {
         return None;
     }
     let c = compact_by(fixed, marks, log, stored, tables, online, pool, p, s);

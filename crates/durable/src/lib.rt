@@ -11,6 +11,7 @@ ghost use Rattle.rules.specs.Lent.{marks_length};
 ghost use Rattle.durable.specs.Limits.{places_of, most_values};
 ghost use Rattle.durable.specs.Marks.{is_record, sound_counts, number_within, sound_stamps, dirty_from, sound_dirties, sound_marks};
 
+use layout::read;
 use number::{LogNo, PageNo};
 use record::row;
 use record::row::LogRow;
@@ -212,20 +213,20 @@ fn sound_marks(marks: &[u8], log: &[u8], size: usize, pages: usize, log_size: u6
     requires { (length marks.now ≡ marks_length pages) × (length log.now ≡ log_width * log_size) × (8 ≤ size) }
     ensures { result ≡ sound_marks marks.now log.now size pages log_size }
 {
-    let last = LogNo(word::load(marks, layout::LAST_AT, 4));
+    let last = read::last_of(marks);
     let closed = LogNo(word::load(marks, layout::CLOSED_AT, 4));
-    let n = word::load(marks, layout::LOGGED_AT, 4);
-    if !counts(last, closed, n, log_size) {
+    let n = read::logged_of(marks);
+    if !counts(last, closed, n as u64, log_size) {
         return false;
     }
     if !stamps(marks, pages, last, closed) {
         return false;
     }
-    let below = LogNo(last.0 - n);
+    let below = LogNo(last.0 - n as u64);
     if !dirty_numbers(marks, pages, below, closed) {
         return false;
     }
-    sound_log(log, n as usize, size, pages)
+    sound_log(log, n, size, pages)
 }
 
 // The parameters, the lengths and the durable part of any lent tables are sound.

@@ -7,13 +7,14 @@ ghost use Rattle.record.specs.Part.{part};
 ghost use Rattle.record.specs.Rows.{keep};
 ghost use Rattle.record.specs.Record.{online_width, on_page, apply, applied, row_of};
 ghost use Rattle.order.specs.Order.{touched};
-ghost use Rattle.rules.specs.Lent.{order_at, fixed_length, count_in, size_of, pages_of, frames_of, online_size_of, count_of, order_of, entry_at, dirty_in, page_in, with_page, with_order, with_entries, with_count};
+ghost use Rattle.rules.specs.Lent.{order_at, size_of, pages_of, frames_of, online_size_of, count_of, order_of, entry_at, dirty_in, page_in, with_page, with_order, with_entries, with_count};
 ghost use Rattle.rules.specs.Areas.{areas};
 ghost use Rattle.rules.specs.Sound.{zeros};
 ghost use Rattle.rules.specs.Shape.{Shaped};
 ghost use Rattle.rules.specs.Steps.{placed, read_tables, update_tables};
 ghost use Rattle.fetch.specs.Post.{PageBrought, PageFetched, PageUsed, ReadDone, UpdateDone};
 
+use layout::read;
 use number::{FrameNo, PageNo};
 use order::Order;
 use record::row;
@@ -24,14 +25,6 @@ use record::row::OnlineRow;
 pub struct Fetched {
     pub frame: FrameNo,
     pub reads: u32,
-}
-
-// How many online records there are.
-fn count_of(tables: &[u8]) -> usize
-    requires { 2 ≤ length tables.now }
-    ensures { (result ≡ count_in tables.now) × (result < 65536) }
-{
-    word::load(tables, layout::COUNT_AT, 2) as usize
 }
 
 // The page's entry.
@@ -89,7 +82,7 @@ fn bring_in(
     let size = given.size as usize;
     let pages = given.pages as usize;
     let frames = given.frames as usize;
-    let rows = row::first_rows::<19>(online, count_of(tables));
+    let rows = row::first_rows::<19>(online, read::count_of(tables));
     let evicted = entry_of(tables, frames, p) % 2 == 1;
     fill_frame(pool, size, f, stored, p, rows, evicted);
     take_frame(tables, frames, pages, f, p);
@@ -222,7 +215,7 @@ fn change_page(
 {
     let given = layout::params_of(fixed);
     let frames = given.frames as usize;
-    let m = count_of(tables);
+    let m = read::count_of(tables);
     let order = frames::load_order(tables, frames);
     let got = fetch(fixed, marks, log, stored, tables, online, pool, &order, p);
     let f = got.frame;
@@ -261,7 +254,7 @@ pub fn update(
 {
     let given = layout::params_of(fixed);
     let size = given.size as usize;
-    let m = count_of(tables);
+    let m = read::count_of(tables);
     let got = change_page(fixed, marks, log, stored, tables, online, pool, p);
     let f = got.frame;
     table::append(online, m, p, offset, w, kind, v, owner);

@@ -8,6 +8,7 @@ ghost use Rattle.record.specs.Rows.{keep};
 ghost use Rattle.record.specs.Record.{on_page, applied};
 ghost use Rattle.rules.specs.Lent.{order_at, used_in, in_frame, frame_of, page_in, with_order};
 ghost use Rattle.rules.specs.Steps.{freed, placed};
+ghost use Rattle.frames.specs.Freed.{order_without};
 
 use number::{FrameNo, PageNo};
 use order::Order;
@@ -39,12 +40,7 @@ fn freed_entry(f: FrameNo, e: u8) -> u8
     requires { f.0 < 64 }
     ensures { result ≡ freed f.0 e }
 {
-    let half = e / 2;
-    if usize::from(half) == f.0 + 1 {
-        e % 2
-    } else {
-        e
-    }
+    if frame_of(e) == Some(f) { e % 2 } else { e }
 }
 
 // The frame that an entry names, if it names one.
@@ -54,6 +50,16 @@ pub fn frame_of(e: u8) -> Option<FrameNo>
     match e / 2 {
         0 => None,
         half => Some(FrameNo(usize::from(half) - 1)),
+    }
+}
+
+// The use order without the frame, if one is freed.
+pub fn freed_order(frees: Option<FrameNo>, order: Order) -> Order
+    ensures { result ≡ order_without frees order }
+{
+    match frees {
+        Some(f) => order.free(f),
+        None => order,
     }
 }
 

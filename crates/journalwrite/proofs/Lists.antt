@@ -1,5 +1,5 @@
 -- Laws of a list of pages: all of them lent, a record more, the whole journal; and of the call judged and told.
-use Prim.Native.Nat.{ℕ, zero, suc, ◌+◌, ◌*◌, ◌-◌, ◌/◌, ◌^◌, ◌≤◌, ◌<◌}
+use Prim.Native.Nat.{ℕ, zero, suc, ◌+◌, ◌*◌, ◌-◌, ◌/◌, ◌%◌, ◌^◌, ◌≤◌, ◌<◌}
 use native.Mathlib.Omega.{arith}
 use native.Mathlib.Nat.{mul-le-mul, mul-le-mul_right}
 use mathlib.Core.Path.{◌≡◌, refl, sym, ap, ◌∙◌}
@@ -14,13 +14,14 @@ use Rattle.record.specs.Part.{with_part}
 use Rattle.record.proofs.Parts.{length_with}
 use Rattle.journal.specs.Layout.{is_size, is_sector, whole_pages, header_bytes, record_bytes, records_bytes}
 use Rattle.journal.specs.Writing.{any_past, saved_page, journal_length, journal_bytes}
-use Rattle.std.specs.Prelude.{Ok, Err}
+use Rattle.std.specs.Prelude.{Ok, Err, None}
 use Rattle.journal.specs.declared.Refusal.{Refusal}
+use Rattle.journal.specs.declared.Reply.{Reply}
 use Rattle.journal.specs.declared.Refusal.TheVariants.{ShortTarget, EmptyList, BadPage, BadParameter, BadLength}
-use Rattle.journal.specs.Answers.{reply_refused}
+use Rattle.journal.specs.Answers.{reply_refused, reply_played}
 use Rattle.journal.specs.Calls.{judge_write, write_call, Told}
 use Rattle.journal.proofs.Tells.{refused_by, passed_by, size_range, sector_range}
-use Rattle.journal.proofs.Writes.{length_header, length_record, length_page}
+use Rattle.journal.proofs.Writes.{fit, length_header, length_record, length_page}
 use Rattle.journalwrite.proofs.Fills.{behind}
 
 -- `page_end`: the product fits
@@ -172,8 +173,12 @@ module _ (pages list target : List ℕ) (size nonce sector : ℕ) where
   unfolding write_call
   write_no e s = rw (← s) (record { reply = refl; bytes = refl })
 
-  pub write_done : (target' : List ℕ) → judge_write list (length pages) (length target) size sector ≡ Ok tt
+  pub write_done : (r : Reply) (target' : List ℕ) → judge_write list (length pages) (length target) size sector ≡ Ok tt
+      → r ≡ reply_played (record { count = length list; ended = None })
       → target' ≡ journal_bytes pages list size nonce sector ++ drop (journal_length sector size (length list)) target
-      → Told (write_call pages list target size nonce sector) (record { code = 0; ended = 0; records = length list }) target'
+      → Told (write_call pages list target size nonce sector) r target'
   unfolding write_call
-  write_done target' s e = rw s (record { reply = refl; bytes = e })
+  write_done r target' s told e =
+      let few = (fit list (length pages) (length target) size sector s).few in
+      let n : length list % 2 ^ 32 ≡ length list = omega arith in
+      rw s (record { reply = told ∙ (λ i. record { code = 0; ended = 0; records = n i }); bytes = e })

@@ -8,7 +8,7 @@ mod put;
 ghost use Rattle.std.specs.Prelude.{◌≡◌};
 ghost use Rattle.journal.specs.Calls.{judge_write, write_call, Told};
 
-use journal::{Refusal, Reply};
+use journal::{Refusal, Reply, Run};
 
 // The call judged: 20, 26, 27, 14, 15, or none of them. Nothing is written.
 #[tactic(auto, using(crate::proofs::Lists::judged_20, crate::proofs::Lists::judged_26, crate::proofs::Lists::judged_27, crate::proofs::Lists::judged_14, crate::proofs::Lists::judged_15, crate::proofs::Lists::judged_go, crate::proofs::Lists::sizes))]
@@ -48,11 +48,10 @@ pub fn ventarico_journal_write(
     match judge(list, pages.len(), target.len(), page_size, sector) {
         Ok(()) => {
             list::write_all(pages, list, target, page_size, nonce, sector);
-            Reply {
-                code: 0,
-                ended: 0,
-                records: list.len() as u32,
-            }
+            Reply::from(Run {
+                count: list.len(),
+                ended: None,
+            })
         }
         Err(refusal) => Reply::from(refusal),
     }

@@ -1,12 +1,13 @@
 -- Laws of a test that a call answered, of the rows that clash, and of a length that is eight.
-use Prim.Native.Nat.{ℕ, suc, ◌+◌, ◌-◌, ◌^◌, ◌≤◌, ◌<◌}
+use Prim.Native.Nat.{ℕ, ◌+◌, ◌^◌, ◌≤◌, ◌<◌}
 use native.Mathlib.Omega.{arith}
 use mathlib.Core.Path.{◌≡◌, refl, sym, ap, ◌∙◌}
 use mathlib.Core.Bool.{Bool, true, false, not, ◌&&◌, ◌||◌, not-not}
 use mathlib.Core.List.{List, [], ◌∷◌}
 use lib.Dec.{eqb, ltb}
+use Rattle.std.specs.List.{list_any}
 use borrow.Author.Tests.{eqb-true, ne_eqb, lt-ltb}
-use Rattle.record.specs.Rows.{row_at, rows, any}
+use Rattle.record.specs.Rows.{any}
 use Rattle.record.specs.Record.{page_of, offset_of, length_of, owner_of, committed, is_length, row_of, overlaps, share_byte, free}
 use Rattle.record.proofs.Fields.{row_page, row_offset, row_length, row_owner}
 use Rattle.rules.specs.Sound.{apart}
@@ -43,11 +44,16 @@ unfolding any
 held_apart p offset w kind v x h k n [] = refl
 held_apart p offset w kind v x h k n (a ∷ l) = λ i. not_apart p offset w kind v x h k n a i || held_apart p offset w kind v x h k n l i
 
--- a length that is none of the other three is eight
-pub eight : (w : ℕ) → is_length w ≡ true → (w ≡ 1 → ⊥) → (w ≡ 2 → ⊥) → (w ≡ 4 → ⊥) → w ≡ 8
+-- a length that is none of the other three is eight, and any value is below 256 to the power of eight
+pub eight_value : (v w : ℕ) → is_length w ≡ true → (w ≡ 1 → ⊥) → (w ≡ 2 → ⊥) → (w ≡ 4 → ⊥) → v < 2 ^ 64 → true ≡ ltb v (256 ^ w)
 unfolding is_length
-eight w e a b c =
-    eqb-true w 8 (sym (λ i. ne_eqb w 1 a i || ne_eqb w 2 b i || ne_eqb w 4 c i || eqb w 8) ∙ e)
+eight_value v w e a b c h = sym (ap (λ (k : ℕ). ltb v (256 ^ k)) eight ∙ lt-ltb v (256 ^ 8) h)
+  where
+    eight : w ≡ 8
+    eight = eqb-true w 8 (sym (λ i. ne_eqb w 1 a i || ne_eqb w 2 b i || ne_eqb w 4 c i || eqb w 8) ∙ e)
 
-pub eight_value : (v w : ℕ) → w ≡ 8 → v < 2 ^ 64 → true ≡ ltb v (256 ^ w)
-eight_value v w e h = sym (ap (λ (k : ℕ). ltb v (256 ^ k)) e ∙ lt-ltb v (256 ^ 8) h)
+-- the library's test of a list is the rules' test of rows
+pub any_listed : (b : List ℕ → Bool) (l : List (List ℕ)) → list_any b l ≡ any b l
+unfolding any
+any_listed b [] = refl
+any_listed b (x ∷ l) = ap (λ (y : Bool). b x || y) (any_listed b l)

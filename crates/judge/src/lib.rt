@@ -123,7 +123,7 @@ pub fn may_checkpoint(min_del: u32, max_age: u32) -> Verdict
 fn clashes_row(row: &OnlineRow, x: u32, p: u32, offset: u32, w: u32) -> bool
     ensures { result ≡ clashes x p offset w row.now }
 {
-    let owner = row::owner_of(row) as u32;
+    let owner = u32::from(row::owner_of(row));
     let page = row::page_of(row);
     let from = row::offset_of(row);
     let to = from + row::length_of(row);
@@ -132,40 +132,32 @@ fn clashes_row(row: &OnlineRow, x: u32, p: u32, offset: u32, w: u32) -> bool
 }
 
 // A byte asked for is in another live owner's record.
-#[tactic(auto, using(record::proofs::Listed::any_found, record::proofs::Listed::any_passed, record::proofs::Listed::any_none_left))]
 fn is_held(online: &[OnlineRow], x: u32, p: u32, offset: u32, w: u32) -> bool
     ensures { result ≡ held_to_read online.now x p offset w }
 {
-    for row in online {
-        if clashes_row(row, x, p, offset, w) {
-            return true;
-        }
-    }
-    false
+    online.iter().any(|row| clashes_row(row, x, p, offset, w))
 }
 
 // A record's length is 1, 2, 4 or 8.
+#[tactic(auto, unfolding(record::specs::Record::is_length))]
 fn is_length(w: u32) -> bool
     ensures { result ≡ is_length w }
 {
-    (w == 1) | (w == 2) | (w == 4) | (w == 8)
+    matches!(w, 1 | 2 | 4 | 8)
 }
 
 // A value of w bytes is below 256 to that power; asked of record lengths alone.
+#[tactic(auto, using(crate::proofs::Laws::eight_value))]
 fn is_value(v: u64, w: u32) -> bool
     requires { is_length w ≡ true }
     ensures { result ≡ ltb v (256 ^ w) }
 {
-    if w == 1 {
-        return v < 256;
+    match w {
+        1 => v < 256,
+        2 => v < 65536,
+        4 => v < 4294967296,
+        _ => true,
     }
-    if w == 2 {
-        return v < 65536;
-    }
-    if w == 4 {
-        return v < 4294967296;
-    }
-    true
 }
 
 #[tactic(auto, unfolding(rules::specs::Calls::read_refusals, rules::specs::Calls::verdict_of, rules::specs::Calls::refuse_if))]

@@ -7,6 +7,7 @@ ghost use Rattle.onlinecheck.specs.Online.{row_test};
 
 use super::{logged, owned, stamped};
 use durable::Limits;
+use number::LogNo;
 use record::row::{LogRow, OnlineRow};
 
 #[tactic(auto, using(crate::proofs::Laws::owned_number, rules::proofs::Clauses::formed_below))]
@@ -15,11 +16,12 @@ fn is_sound(
     log: &[LogRow],
     marks: &[u8],
     tables: &[u8],
+    first: LogNo,
     last: u64,
     limits: &Limits,
 ) -> bool
-    requires { (length log.now ≤ last) × (last < 4294967296) × (length marks.now ≡ marks_length limits.now.pages) × (order_at ≤ length tables.now) }
-    ensures { result ≡ row_test tables.now log.now marks.now limits.now.size limits.now.pages last (last - length log.now + 1) row.now }
+    requires { (last < first.0 + length log.now) × (length marks.now ≡ marks_length limits.now.pages) × (order_at ≤ length tables.now) }
+    ensures { result ≡ row_test tables.now log.now marks.now limits.now.size limits.now.pages last first.0 row.now }
 {
     if !limits.well_formed(row) {
         return false;
@@ -27,7 +29,7 @@ fn is_sound(
     if !owned::is_owned(row, tables, last) {
         return false;
     }
-    if !logged::is_logged(row, log, last) {
+    if !logged::is_logged(row, log, first) {
         return false;
     }
     stamped::is_above(row, marks, limits.pages)
@@ -40,13 +42,12 @@ pub fn all_sound(
     tables: &[u8],
     size: usize,
     pages: usize,
+    first: LogNo,
     last: u64,
 ) -> bool
-    requires { (length log.now ≤ last) × (last < 4294967296) × (length marks.now ≡ marks_length pages) × (order_at ≤ length tables.now) × (8 ≤ size) }
-    ensures { result ≡ every (row_test tables.now log.now marks.now size pages last (last - length log.now + 1)) online.now }
+    requires { (last < first.0 + length log.now) × (length marks.now ≡ marks_length pages) × (order_at ≤ length tables.now) × (8 ≤ size) }
+    ensures { result ≡ every (row_test tables.now log.now marks.now size pages last first.0) online.now }
 {
     let limits = Limits::new(size, pages);
-    online
-        .iter()
-        .all(|row| is_sound(row, log, marks, tables, last, &limits))
+    online.iter().all(|row| is_sound(row, log, marks, tables, first, last, &limits))
 }

@@ -33,12 +33,14 @@ fn sound_rows(
     tables: &[u8],
     size: usize,
     pages: usize,
+    first: LogNo,
     last: u64,
 ) -> bool
-    requires { (length log.now ≤ last) × (last < 4294967296) × (length marks.now ≡ marks_length pages) × (order_at ≤ length tables.now) × (8 ≤ size) }
-    ensures { result ≡ (every (well_formed size pages) online.now && every (owning_in tables.now last) online.now && zeros behind.now && every (in_log log.now (last - length log.now + 1)) online.now && every (past_stamp marks.now) online.now) }
+    requires { (last < first.0 + length log.now) × (length marks.now ≡ marks_length pages) × (order_at ≤ length tables.now) × (8 ≤ size) }
+    ensures { result ≡ (every (well_formed size pages) online.now && every (owning_in tables.now last) online.now && zeros behind.now && every (in_log log.now first.0) online.now && every (past_stamp marks.now) online.now) }
 {
-    each::all_sound(online, log, marks, tables, size, pages, last) && durable::all_zero(behind) // S14
+    each::all_sound(online, log, marks, tables, size, pages, first, last)
+        && durable::all_zero(behind) // S14
 }
 
 // The rows with the entries and one another.
@@ -74,6 +76,6 @@ pub fn sound_online(
     ensures { result ≡ online_test online.now behind.now log.now marks.now tables.now size pages frames last }
 {
     let first = LogNo(last - log.len() as u64 + 1);
-    sound_rows(online, behind, log, marks, tables, size, pages, last)
+    sound_rows(online, behind, log, marks, tables, size, pages, first, last)
         && sound_ties(online, first, tables, pages, frames)
 }

@@ -1,4 +1,4 @@
-// S10: a committed row is the log's row of its number. By S8 no number is above the last.
+// S10: a committed row is the log's row of its number, the first of which is given. By S8 no number is above the last.
 ghost use Rattle.std.specs.Prelude.{◌≡◌, ◌+◌, ◌-◌, ◌≤◌, ◌<◌, length};
 ghost use Rattle.record.specs.Record.{number_of, body_of};
 ghost use Rattle.rules.specs.Sound.{same};
@@ -21,16 +21,15 @@ fn same_row(row: &OnlineRow, logged: &LogRow) -> bool
 }
 
 #[tactic(auto, using(crate::proofs::Laws::log_free, crate::proofs::Laws::log_before, crate::proofs::Laws::log_row))]
-pub fn is_logged(row: &OnlineRow, log: &[LogRow], last: u64) -> bool
-    requires { (length log.now ≤ last) × (last < 4294967296) × (number_of row.now ≤ last) }
-    ensures { result ≡ in_log log.now (last - length log.now + 1) row.now }
+pub fn is_logged(row: &OnlineRow, log: &[LogRow], first: LogNo) -> bool
+    requires { number_of row.now < first.0 + length log.now }
+    ensures { result ≡ in_log log.now first.0 row.now }
 {
     let x = row::owner_of(row);
     if x != 0 {
         return true;
     }
     let k = row::number_of(row);
-    let first = LogNo(last - log.len() as u64 + 1);
     if k < first {
         return false;
     }

@@ -25,15 +25,12 @@ impl Model for Order {
 }
 
 // The order that the first `used` bytes of a table hold.
-#[tactic(auto, using(crate::proofs::Laws::copy_turn))]
 pub fn load(t: &[u8], used: usize) -> Order
     requires { (used ≤ 64) × (used ≤ length t.now) }
     ensures { result ≡ take used t.now }
 {
     let mut slots = [0u8; 65];
-    for i in 0..used {
-        slots[i] = t[i];
-    }
+    fill::copy(&mut slots[..used], &t[..used]);
     Order { slots, used }
 }
 

@@ -66,7 +66,7 @@ fn counts_within(tables: &[u8], frames: usize, room: usize) -> bool
     requires { 3 ≤ length tables.now }
     ensures { result ≡ (leb (count_in tables.now) room && leb (used_in tables.now) frames) }
 {
-    let m = word::load(tables, layout::COUNT_AT, 2) as usize;
+    let m = layout::read::count_of(tables);
     let u = usize::from(tables[layout::USED_AT]);
     (m <= room) & (u <= frames)
 }

@@ -6,12 +6,12 @@ ghost use Rattle.word.specs.Word.{put};
 ghost use Rattle.record.specs.Part.{with_part};
 ghost use Rattle.record.specs.Rows.{joined};
 ghost use Rattle.record.specs.Record.{online_width, log_width, page_of, entered};
-ghost use Rattle.rules.specs.Lent.{order_at, marks_length, stamps_at, last_in, logged_in, pages_in, frames_in, entry_at};
+ghost use Rattle.rules.specs.Lent.{order_at, marks_length, pages_in, frames_in, entry_at};
 ghost use Rattle.rules.specs.Sound.{every};
 ghost use Rattle.rules.specs.Shape.{page_below};
 ghost use Rattle.rules.specs.Areas.{areas, areas_of};
 ghost use Rattle.rules.specs.Steps.{entering_all, evicted_all, restarted};
-ghost use Rattle.restart.specs.Enter.{enters_by, entering_by, first_by, all_by, Readable, Restartable, Restarts};
+ghost use Rattle.restart.specs.Enter.{enters_by, entering_by, all_by, Readable, Restartable, Restarts};
 
 use layout::read;
 use number::LogNo;
@@ -109,16 +109,6 @@ impl<'a> Records<'a> {
     }
 }
 
-// The number of the first log record.
-fn first_of(marks: &[u8]) -> LogNo
-    requires { (stamps_at ≤ length marks.now) × (logged_in marks.now ≤ last_in marks.now) }
-    ensures { (result.0 ≡ first_by marks.now) × (result.0 < 2 ^ 33) }
-{
-    let last = read::last_of(marks);
-    let n = read::logged_of(marks);
-    LogNo(last.0 - n as u64 + 1)
-}
-
 // The records of the whole log.
 #[tactic(auto, using(crate::proofs::Laws::all_read))]
 fn read_records<'a>(fixed: &[u8], marks: &'a [u8], log: &'a [u8]) -> Records<'a>
@@ -128,7 +118,7 @@ fn read_records<'a>(fixed: &[u8], marks: &'a [u8], log: &'a [u8]) -> Records<'a>
 {
     let pages = word::load(fixed, layout::PAGES_AT, 4) as usize;
     let rows = row::first_rows::<14>(log, read::logged_of(marks));
-    let first = first_of(marks);
+    let first = read::first_of(marks);
     Records {
         marks,
         rows,

@@ -1,6 +1,6 @@
 -- Soundness as its two parts, and the shape that it gives.
 use Prim.Native.Nat.{◌*◌, ◌≤◌}
-use mathlib.Core.Path.{◌≡◌, refl, sym, ap, ◌∙◌}
+use mathlib.Core.Path.{◌≡◌, refl, ◌∙◌}
 use mathlib.Core.Bool.{Bool, true, false, ◌&&◌}
 use lib.ListN.{drop}
 use Rattle.word.proofs.Tests.{and_both}

@@ -11,6 +11,7 @@ ghost use Rattle.record.specs.Record.{online_width, log_width};
 ghost use Rattle.record.specs.Rows.{rows};
 ghost use Rattle.rules.specs.Lent.{order_at, marks_length, count_in, last_in, logged_in};
 
+use layout::read;
 use record::row;
 use rules::{Areas, Params};
 
@@ -25,9 +26,9 @@ fn lost_at(marks: &[u8], log: &[u8], tables: &[u8], online: &[u8], g: Params) ->
     if !pagetable::sound_tables(tables, pages, frames, g.online as usize) {
         return false;
     }
-    let m = word::load(tables, layout::COUNT_AT, 2) as usize;
-    let n = word::load(marks, layout::LOGGED_AT, 4) as usize;
-    let last = word::load(marks, layout::LAST_AT, 4);
+    let m = read::count_of(tables);
+    let n = read::logged_of(marks);
+    let last = read::last_of(marks);
     let end = m * record::ONLINE_WIDTH;
     onlinecheck::sound_online(
         row::first_rows(online, m),
@@ -38,7 +39,7 @@ fn lost_at(marks: &[u8], log: &[u8], tables: &[u8], online: &[u8], g: Params) ->
         g.size as usize,
         pages,
         frames,
-        last,
+        last.0,
     )
 }
 

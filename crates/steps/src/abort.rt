@@ -10,6 +10,7 @@ ghost use Rattle.rules.specs.Shape.{Shaped};
 ghost use Rattle.rules.specs.Steps.{freed_of, frames_freed, judged_anew, aborted};
 ghost use Rattle.table.specs.Marks.{mark_pages};
 
+use layout::read;
 use number::PageNo;
 use order::Order;
 use record::row;
@@ -22,17 +23,8 @@ fn byte_at(t: &[u8], i: usize) -> u8
     t.get(i).copied().unwrap_or(0)
 }
 
-// The order once a page of this entry has lost its frame.
-fn freed_order(e: u8, order: Order) -> Order
-    ensures { result ≡ freed_of e order }
-{
-    match frames::frame_of(e) {
-        Some(f) => order.free(f),
-        None => order,
-    }
-}
-
 // The order without the frame of the row's page, if the row is the owner's.
+#[tactic(auto, using(frames::proofs::Laws::freed_named))]
 fn free_row(tables: &[u8], row: &OnlineRow, frames: usize, owner: u8, order: Order) -> Order
     requires { frames ≤ 64 }
     ensures { result ≡ cond (owned_by owner row.now) (freed_of (get_or tables.now (entry_at frames (page_of row.now)) 0) order) order }
@@ -41,7 +33,8 @@ fn free_row(tables: &[u8], row: &OnlineRow, frames: usize, owner: u8, order: Ord
         return order;
     }
     let p = row::page_of(row);
-    freed_order(byte_at(tables, layout::ORDER_AT + frames + p.0), order)
+    let e = byte_at(tables, layout::ORDER_AT + frames + p.0);
+    frames::freed_order(frames::frame_of(e), order)
 }
 
 // The order without the frames of the pages of the owner's rows.
@@ -134,7 +127,7 @@ pub fn abort(
     ensures { areas fixed.now marks.now log.now stored.now tables.new online.new pool.now ≡ (aborted (areas fixed.now marks.now log.now stored.now tables.old online.old pool.now) owner).lent }
 {
     let given = layout::params_of(fixed);
-    let m = word::load(tables, layout::COUNT_AT, 2) as usize;
+    let m = read::count_of(tables);
     take_back(
         tables,
         online,

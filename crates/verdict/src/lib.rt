@@ -176,10 +176,7 @@ fn entry_of(tables: &[u8], frames: usize, p: u32) -> u8
     ensures { result ≡ get_or tables.now (entry_at frames p) 0 }
 {
     let at = layout::ORDER_AT + frames + p as usize;
-    if tables.len() <= at {
-        return 0;
-    }
-    tables[at]
+    tables.get(at).copied().unwrap_or(0)
 }
 
 // Format's lent lengths.

@@ -1,7 +1,7 @@
 -- The list judged, an image put, the frames written one behind the other.
 use Prim.Native.Nat.{ℕ, zero, suc, ◌+◌, ◌*◌, ◌-◌, ◌≤◌, ◌<◌}
 use native.Mathlib.Omega.{arith}
-use native.Mathlib.Nat.{suc-mul}
+use native.Mathlib.Nat.{suc-mul, mul-le-mul_right}
 use native.Mathlib.Numerals.{add-one}
 use mathlib.Core.Path.{◌≡◌, refl, sym, ap, ◌∙◌}
 use mathlib.Core.Bool.{Bool, true, false, cond, not, ◌&&◌, true≢false}
@@ -38,7 +38,7 @@ use Rattle.word.proofs.Bigs.{grow}
 use Rattle.walwrite.specs.declared.Why.{Why}
 use Rattle.walwrite.specs.declared.Why.TheVariants.{Store, ShortTarget, EmptyList}
 use Rattle.walwrite.specs.Image.{image_in}
-use Rattle.walwrite.specs.Write.{Ruling, code_of_why, listed, refuse_if, may_write, judge_write, log_of, settled, write_call}
+use Rattle.walwrite.specs.Write.{Ruling, reply_of_why, listed, refuse_if, may_write, judge_write, log_of, settled, write_call}
 
 -- the rest of a list, from a place within it
 rest : (l : List ℕ) (i : ℕ) → i < length l → drop i l ≡ get_or l i 0 ∷ drop (i + 1) l
@@ -115,12 +115,13 @@ frame_image h s r page commit f f' ys image k e did =
     let g : drop 24 (with_part 24 (length f - 24) f ys) ≡ image = image_part f ys k ∙ e in
     (did.0 ∙ ap (frame_bytes h s page commit) g, did.1 ∙ ap (image_sums h s page commit) g)
 
--- room for the frames that are left
-pub room_turn : (n i w at room : ℕ) → i < n → at + (n - i) * w ≤ room → (at + w ≤ room) × (at + w + (n - (i + 1)) * w ≤ room)
-room_turn n i w at room h k =
-    let e : n - i ≡ suc (n - (i + 1)) = omega arith in
-    let k' : at + (n - (i + 1)) * w + w ≤ room = omega (arith, rw (e, suc-mul (n - (i + 1)) w) at k) in
-    omega arith
+-- room for the frame at a place, and where the next one begins
+pub room_turn : (n i w room : ℕ) → i < n → 32 + n * w ≤ room → (32 + i * w + w ≤ room) × (32 + (i + 1) * w ≡ 32 + i * w + w)
+room_turn n i w room h k =
+    let e : (i + 1) * w ≡ i * w + w = ap (λ (x : ℕ). x * w) (add-one i) ∙ suc-mul i w in
+    let l : i + 1 ≤ n = omega arith in
+    let m : (i + 1) * w ≤ n * w = mul-le-mul_right w l in
+    (omega arith, omega arith)
 
 -- a page listed is one of the pages
 pub page_below : (l : List ℕ) (i count : ℕ) → listed count l ≡ true → i < length l → get_or l i 0 < count
@@ -279,11 +280,11 @@ write_asks size pages size' pages' room order l es ep go =
     rw (es, ep) (p.2, p.0)
 
 -- the call: refused, and done
-pub write_refused : (s : Lent) (l t : List ℕ) (a b q order : ℕ) (v : Ruling) (w : Why) (n : ℕ) → v ≡ judge_write s l (length t) order → v ≡ Err w → n ≡ code_of_why w → record { reply = record { code = n; note = 0; reads = 0; writes = 0; logs = 0 }; target = t } ≡ write_call s l t a b q order
+pub write_refused : (s : Lent) (l t : List ℕ) (a b q order : ℕ) (v : Ruling) (w : Why) (r : Reply) → v ≡ judge_write s l (length t) order → v ≡ Err w → r ≡ reply_of_why w → record { reply = r; target = t } ≡ write_call s l t a b q order
 unfolding write_call
-write_refused s l t a b q order v w n e f k =
+write_refused s l t a b q order v w r e f k =
     let g : judge_write s l (length t) order ≡ Err w = sym e ∙ f in
-    (λ i. record { reply = record { code = k i; note = 0; reads = 0; writes = 0; logs = 0 }; target = t }) ∙ ap (λ (x : Ruling). settled x l t (log_of s l a b q order)) (sym g)
+    (λ i. record { reply = k i; target = t }) ∙ ap (λ (x : Ruling). settled x l t (log_of s l a b q order)) (sym g)
 
 pub write_done : (s : Lent) (l t t' : List ℕ) (a b q order size pages : ℕ) (online : List (List ℕ)) (r : Reply) → judge_write s l (length t) order ≡ Ok tt → r ≡ record { code = 0; note = 0; reads = length l; writes = 0; logs = 0 } → size ≡ size_of s → pages ≡ pages_of s → online ≡ online_of s
     → t' ≡ written (eqb order 1) size q a b (image_in size s.durable.stored online) pages l ++ drop (length (written (eqb order 1) size q a b (image_in size s.durable.stored online) pages l)) t

@@ -17,6 +17,9 @@ code_of_why (Store r) = code_of r
 code_of_why ShortTarget = 14
 code_of_why EmptyList = 15
 
+abbrev pub reply_of_why : Why → Reply
+reply_of_why w = record { code = code_of_why w; note = 0; reads = 0; writes = 0; logs = 0 }
+
 -- what judging says
 abbrev pub Ruling : Type 0
 Ruling = Result (Unit {0}) Why
@@ -54,7 +57,7 @@ pub record Outcome : Type 0 where
 -- "one page read for each page listed", "Target bytes past the end stay"
 abbrev pub settled : Ruling → List ℕ → List ℕ → List ℕ → Outcome
 settled (Ok u) list target log = record { reply = record { code = 0; note = 0; reads = length list; writes = 0; logs = 0 }; target = log ++ drop (length log) target }
-settled (Err w) list target log = record { reply = record { code = code_of_why w; note = 0; reads = 0; writes = 0; logs = 0 }; target = target }
+settled (Err w) list target log = record { reply = reply_of_why w; target = target }
 
 unfoldable pub write_call : Lent → List ℕ → List ℕ → ℕ → ℕ → ℕ → ℕ → Outcome
 write_call s list target salt1 salt2 sequence order = settled (judge_write s list (length target) order) list target (log_of s list salt1 salt2 sequence order)

@@ -10,8 +10,9 @@ ghost use Rattle.wal.specs.Layout.{frame_size};
 ghost use Rattle.wal.specs.Written.{image_sums, frame_bytes, frames_bytes, written};
 ghost use Rattle.walwrite.specs.Image.{image_in};
 ghost use Rattle.walwrite.specs.declared.Why.TheVariants.{Store};
-ghost use Rattle.walwrite.specs.Write.{code_of_why, listed, may_write, judge_write, write_call};
+ghost use Rattle.walwrite.specs.Write.{reply_of_why, listed, may_write, judge_write, write_call};
 
+use layout::read;
 use number::PageNo;
 use record::row;
 use record::row::OnlineRow;
@@ -34,13 +35,22 @@ impl From<Refusal> for Why {
     }
 }
 
-fn code_of(why: Why) -> u32
-    ensures { result ≡ code_of_why why }
-{
-    match why {
-        Why::Store(r) => u32::from(r.number()),
-        Why::ShortTarget => 14,
-        Why::EmptyList => 15,
+impl From<Why> for Reply {
+    ghost from_gives = { λ why reply. reply ≡ reply_of_why why };
+
+    fn from(why: Why) -> Reply {
+        let code = match why {
+            Why::Store(r) => u32::from(r.number()),
+            Why::ShortTarget => 14,
+            Why::EmptyList => 15,
+        };
+        Reply {
+            code,
+            note: 0,
+            reads: 0,
+            writes: 0,
+            logs: 0,
+        }
     }
 }
 
@@ -145,9 +155,9 @@ fn write_frames(target: &mut [u8], h: Header, pages: &Pages, list: &[u32])
 {
     let w = 24 + pages.size;
     let n = list.len();
-    let mut at = 32;
     let mut sums = h.sums;
     for (i, p) in list.iter().enumerate() {
+        let at = 32 + i * w;
         let e = at + w;
         let commit = if i + 1 == n { pages.count } else { 0 };
         sums = write_frame(
@@ -158,7 +168,6 @@ fn write_frames(target: &mut [u8], h: Header, pages: &Pages, list: &[u32])
             PageNo(*p as usize),
             commit,
         );
-        at = e;
     }
 }
 
@@ -208,21 +217,14 @@ pub fn ventarico_wal_write(
         pool,
     };
     match judge_write(&lent, list, room, order) {
-        Err(why) => Reply {
-            code: code_of(why),
-            note: 0,
-            reads: 0,
-            writes: 0,
-            logs: 0,
-        },
+        Err(why) => Reply::from(why),
         Ok(()) => {
             let given = layout::params_of(fixed);
-            let m = word::load(tables, 0, 2) as usize;
             let pages = Pages {
                 size: given.size as usize,
                 count: given.pages as u32,
                 stored,
-                online: row::first_rows::<19>(online, m),
+                online: row::first_rows::<19>(online, read::count_of(tables)),
             };
             write_log(target, &pages, list, salt_1, salt_2, sequence, order == 1);
             Reply::from(Answer::Done(Counts {

@@ -7,7 +7,7 @@ pub compact_all-d-requires : goal.compact_all-d-requires
 compact_all-d-requires c =
     let a = c.args in
     let k = c.mark_committed in
-    (c.requires.0, c.requires.1, noted_all k.new.seen (areas a.fixed.now a.marks.now a.log.now a.stored.now a.tables.now a.online.now a.pool.now) _ c.load-m.ensures.0 (rw c.first_rows.ensures at k.ensures))
+    (c.requires.0, c.requires.1, noted_all k.new.seen (areas a.fixed.now a.marks.now a.log.now a.stored.now a.tables.now a.online.now a.pool.now) _ c.count_of-m.ensures.0 (rw c.first_rows.ensures at k.ensures))
 
 pub returns : goal.returns
 returns c =

@@ -7,7 +7,7 @@ pub write_page-requires : goal.write_page-requires
 write_page-requires c =
     let a = c.args in
     let m = c.params_of-given in
-    let n = c.load-m in
+    let n = c.count_of-m in
     let k = c.plan_for-plan in
     let q = planned_seen a.tables.now a.online.now a.p.0 _ n.result a.s k.result n.ensures.0 c.requires.2 k.ensures in
     page_there a.fixed.now a.marks.now a.log.now a.stored.now a.tables.now a.online.now a.pool.now a.p.0 m.result n.result k.result m.ensures n.ensures.0 q a.s c.requires.2 c.requires.0 c.requires.1
@@ -16,7 +16,7 @@ pub compact_lost-requires : goal.compact_lost-requires
 compact_lost-requires c =
     let a = c.args in
     let m = c.params_of-given in
-    let n = c.load-m in
+    let n = c.count_of-m in
     let k = c.plan_for-plan in
     let q = planned_seen a.tables.now a.online.now a.p.0 _ n.result a.s k.result n.ensures.0 c.requires.2 k.ensures in
     tables_there a.fixed.now a.marks.now a.log.now a.stored.now a.tables.now a.online.now a.pool.now a.p.0 m.result n.result k.result m.ensures n.ensures.0 q a.s c.requires.2 c.requires.0 c.requires.1
@@ -25,7 +25,7 @@ pub returns : goal.returns
 returns c =
     let a = c.args in
     let m = c.params_of-given in
-    let n = c.load-m in
+    let n = c.count_of-m in
     let k = c.plan_for-plan in
     let q = planned_seen a.tables.now a.online.now a.p.0 _ n.result a.s k.result n.ensures.0 c.requires.2 k.ensures in
     record {

@@ -39,8 +39,8 @@ pub fn ventarico_checkpoint(
                 tables,
                 online,
                 pool,
-                min_del as u64,
-                max_age as u64,
+                u64::from(min_del),
+                u64::from(max_age),
             );
             crate::answer::done(c.reads, c.writes, 1)
         }

@@ -42,8 +42,8 @@ pub fn ventarico_compact(
                 online,
                 pool,
                 PageNo(page as usize),
-                min_del as u64,
-                max_age as u64,
+                u64::from(min_del),
+                u64::from(max_age),
             );
             match step {
                 None => crate::answer::not_due(),

@@ -25,11 +25,11 @@ pub fn ventarico_format(
         (areas fixed.new marks.new log.new stored.now tables.new online.new pool.now) }
 {
     let g = Params {
-        size: page_size as u64,
-        pages: pages as u64,
-        frames: frames as u64,
-        online: online_size as u64,
-        log: log_size as u64,
+        size: u64::from(page_size),
+        pages: u64::from(pages),
+        frames: u64::from(frames),
+        online: u64::from(online_size),
+        log: u64::from(log_size),
     };
     let lent = Areas {
         fixed: &*fixed,
@@ -52,7 +52,7 @@ pub fn ventarico_format(
                 online,
                 pool,
                 g,
-                last as u64,
+                u64::from(last),
             );
             crate::answer::done(0, 0, 0)
         }

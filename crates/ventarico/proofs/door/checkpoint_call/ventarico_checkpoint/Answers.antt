@@ -23,7 +23,7 @@ returns-in-Err c = rw (sym c.judge_checkpoint.ensures ∙ c.in-Err.is) (record {
 pub returns-in-Ok : goal.returns-in-Ok
 unfolding checkpoint_call
 returns-in-Ok c =
-    let did = c.checkpoint-c.ensures in
+    let did = rw (c.from.ensures, c.from-in-Ok.ensures) at c.checkpoint-c.ensures in
     let d = checkpointed c.args.min_del c.args.max_age (areas c.args.fixed.now c.args.marks.now c.args.log.now c.args.stored.now c.args.tables.now c.args.online.now c.args.pool.now) in
     let one = checkpoint_logs c.args.min_del c.args.max_age (areas c.args.fixed.now c.args.marks.now c.args.log.now c.args.stored.now c.args.tables.now c.args.online.now c.args.pool.now) in
     rw (sym c.judge_checkpoint.ensures ∙ c.in-Ok.is)

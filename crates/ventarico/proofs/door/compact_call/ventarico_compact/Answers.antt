@@ -18,7 +18,7 @@ compact_step-step-requires c =
 pub returns-in-None : goal.returns-in-None
 unfolding compact_call compact_step
 returns-in-None c =
-    let did = c.in-None.ensures in
+    let did = rw (c.from.ensures, c.from-in-Ok.ensures) at c.in-None.ensures in
     rw ((sym c.judge_compact.ensures ∙ c.in-Ok.is), sym did.due) (record { reply = c.not_due.ensures; lent = rw (sym did.due) at did.lent })
 
 -- a refusal: its reply, and every byte as it was
@@ -30,7 +30,7 @@ returns-in-Err c = rw (sym c.judge_compact.ensures ∙ c.in-Err.is) (record { re
 pub returns-in-Some : goal.returns-in-Some
 unfolding compact_call compact_step compacted
 returns-in-Some c =
-    let did = c.in-Some.ensures in
+    let did = rw (c.from.ensures, c.from-in-Ok.ensures) at c.in-Some.ensures in
     let compacting = rw (sym did.due) at did in
     rw ((sym c.judge_compact.ensures ∙ c.in-Ok.is), sym did.due)
     (record { reply = rw (compacting.reads, compacting.writes) at c.done.ensures; lent = compacting.lent })
