@@ -145,7 +145,7 @@ pub fn close(
     requires { Shaped (areas fixed.now marks.old log.old stored.now tables.now online.now pool.now) × (logged_of (areas fixed.now marks.old log.old stored.now tables.now online.now pool.now) ≤ last_of (areas fixed.now marks.old log.old stored.now tables.now online.now pool.now)) }
     ensures { areas fixed.now marks.new log.new stored.now tables.now online.now pool.now ≡ (closed (areas fixed.now marks.old log.old stored.now tables.now online.now pool.now)).lent }
 {
-    let rows = row::first_rows::<19>(online, read::count_of(tables));
+    let rows = row::first_rows::<{ record::ONLINE_WIDTH }>(online, read::count_of(tables));
     let x = smallest_committed(rows);
     let d = dropped(marks, x);
     close_log(fixed, marks, log, d);

@@ -21,7 +21,12 @@ fn commit_rows(marks: &[u8], log: &mut [u8], online: &mut [u8], m: usize, owner:
 {
     let last = read::last_of(marks);
     let n = read::logged_of(marks);
-    let full = table::append_log(log, n, row::first_rows::<19>(online, m), owner);
+    let full = table::append_log(
+        log,
+        n,
+        row::first_rows::<{ record::ONLINE_WIDTH }>(online, m),
+        owner,
+    );
     table::number_rows(online, m, owner, last.0 + 1);
     full - n
 }

@@ -179,7 +179,7 @@ fn compact_by(
     let room = given.online as usize;
     let m = read::count_of(tables);
     let plan = plan_for(tables, frames, p, s);
-    let rows = row::first_rows::<19>(online, m);
+    let rows = row::first_rows::<{ record::ONLINE_WIDTH }>(online, m);
     write_page(stored, size, p, &rows[s.from..s.to], pool, plan.from);
     compact_lost(tables, online, frames, m, room, p, s, plan);
     word::store(marks, layout::STAMPS_AT + 4 * p.0, 4, plan.stamp);

@@ -7,12 +7,11 @@ use mathlib.Core.List.{List, [], ◌∷◌, ◌++◌}
 use lib.ListN.{length}
 use lib.Dec.{eqb}
 use borrow.Author.Tests.{le-leb, eq-eqb}
-use Rattle.word.specs.Word.{num}
+use Rattle.word.specs.Word.{num, big as field, bytes_of}
 use Rattle.word.proofs.Tests.{and_in}
 use Rattle.wal.specs.declared.Sums.{Sums}
 use Rattle.wal.specs.declared.Header.{Header}
 use Rattle.std.specs.Prelude.{Ok, Some}
-use Rattle.word.specs.Big.{big as field, bytes_of}
 use Rattle.word.proofs.Bigs.{big_front}
 use Rattle.wal.specs.Sum.{fields_of, word_at, no_sums, paired, summed}
 use Rattle.wal.specs.Layout.{magic_of, version, is_page_size, is_header, head_in, holds_sums, opened, frame_sums, is_valid, seen}

@@ -15,7 +15,7 @@ use Rattle.rules.specs.Sound.{every}
 use Rattle.wal.specs.declared.Sums.{Sums}
 use Rattle.wal.specs.declared.Header.{Header}
 use Rattle.std.specs.Prelude.{Ok, Some}
-use Rattle.word.specs.Big.{bytes_of}
+use Rattle.word.specs.Word.{bytes_of}
 use Rattle.wal.specs.Sum.{fields_of}
 use Rattle.wal.specs.Layout.{Frame, is_page_size, opened, frame_size, is_valid, seen, frame_at, frames_from, valid_frames}
 use Rattle.wal.specs.Written.{head_of, head_bytes, image_sums, frame_bytes, commit_before, frames_bytes, written}

@@ -29,6 +29,25 @@ pub fn all_zero(s: &[u8]) -> bool
     most == 0
 }
 
+// How many offsets a change has on a page, by its length; none where that is no length.
+#[tactic(auto, unfolding(crate::specs::Limits::places_of))]
+pub fn places_of(size: usize) -> [usize; 9]
+    ensures { result ≡ places_of size }
+{
+    let two = size.saturating_sub(1);
+    let four = size.saturating_sub(3);
+    let eight = size.saturating_sub(7);
+    [0, size, two, 0, four, 0, 0, 0, eight]
+}
+
+// The greatest value by length.
+#[tactic(auto, unfolding(crate::specs::Limits::most_values))]
+pub fn most_values() -> [u64; 9]
+    ensures { result ≡ most_values }
+{
+    [0, 255, 65535, 0, 4294967295, 0, 0, 0, 18446744073709551615]
+}
+
 // What bounds a record's fields on pages of one size. What depends on a record's length is looked up by it.
 #[derive(Drop)]
 pub struct Limits {
@@ -41,17 +60,14 @@ pub struct Limits {
 }
 
 impl Limits {
-    // How many offsets a change has on a page, by its length, none where that is no length; and the greatest value.
-    #[tactic(auto, unfolding(crate::specs::Limits::places_of, crate::specs::Limits::most_values))]
     pub fn new(size: usize, pages: usize) -> Self
-        requires { 8 ≤ size }
         ensures { (result.size ≡ size) × (result.pages ≡ pages) }
     {
         Limits {
             size,
             pages,
-            places: [0, size, size - 1, 0, size - 3, 0, 0, 0, size - 7],
-            most: [0, 255, 65535, 0, 4294967295, 0, 0, 0, 18446744073709551615],
+            places: places_of(size),
+            most: most_values(),
         }
     }
 
@@ -163,12 +179,12 @@ fn dirty_numbers(marks: &[u8], pages: usize, below: LogNo, closed: LogNo) -> boo
         & none_before(marks, pages, below)
 }
 
-// A page size is 512, 1,024, 2,048 or 4,096.
+// A page size is 512, 1,024, 2,048 or 4,096. By comparisons: `matches!` is compiled to counts of bits, and a refused size pays for them.
 #[tactic(auto, unfolding(rules::specs::Sound::is_page_size))]
 fn is_page_size(size: u64) -> bool
     ensures { result ≡ is_page_size size }
 {
-    matches!(size, 512 | 1024 | 2048 | 4096)
+    (size == 512) | (size == 1024) | (size == 2048) | (size == 4096)
 }
 
 // The parameters are in their ranges.

@@ -82,7 +82,7 @@ fn bring_in(
     let size = given.size as usize;
     let pages = given.pages as usize;
     let frames = given.frames as usize;
-    let rows = row::first_rows::<19>(online, read::count_of(tables));
+    let rows = row::first_rows::<{ record::ONLINE_WIDTH }>(online, read::count_of(tables));
     let evicted = entry_of(tables, frames, p) % 2 == 1;
     fill_frame(pool, size, f, stored, p, rows, evicted);
     take_frame(tables, frames, pages, f, p);
@@ -258,6 +258,11 @@ pub fn update(
     let got = change_page(fixed, marks, log, stored, tables, online, pool, p);
     let f = got.frame;
     table::append(online, m, p, offset, w, kind, v, owner);
-    apply_in(pool, size, f, row::row_at::<19>(online, m));
+    apply_in(
+        pool,
+        size,
+        f,
+        row::row_at::<{ record::ONLINE_WIDTH }>(online, m),
+    );
     got.reads
 }

@@ -4,8 +4,7 @@ use Rattle.word.proofs.Tests.{and_both, among_four}
 use Rattle.journal.specs.Layout.{is_size, is_sector, whole_pages}
 use Rattle.journal.specs.declared.Refusal.{Refusal}
 use Rattle.journal.specs.declared.Refusal.TheVariants.{ShortTarget, EmptyList, BadPage, BadParameter, BadLength, BadHeader, WrongPage}
-use Rattle.journal.specs.Answers.{code_of}
-use Rattle.journal.specs.Calls.{refuse_if}
+use Rattle.journal.specs.Calls.{refuse_if, code_of}
 
 -- a test that holds, one that does not, and a call that is not refused
 pub refused_by : {A : Type 0} (b : Bool) (r : Refusal) (next : Result A Refusal) → b ≡ true → Err r ≡ refuse_if b r next

@@ -3,7 +3,7 @@ use Rattle.std.proofs.Common.{◌≡◌, ℕ, zero, suc, ◌+◌, ◌-◌, ◌*�
 use lib.ListN.{length-replicate}
 use borrow.Author.Tests.{not-false}
 use Rattle.word.proofs.Tests.{and_both}
-use Rattle.word.specs.Big.{bytes_of}
+use Rattle.word.specs.Word.{bytes_of}
 use Rattle.word.proofs.Bigs.{length_bytes}
 use Rattle.record.specs.Part.{part}
 use Rattle.record.proofs.Parts.{length_part}

@@ -1,10 +1,12 @@
--- The two calls: the refusals in request Thirteen's order, and what is left. A refusal leaves every lent byte.
-use Rattle.std.specs.Prelude.{◌≡◌, ℕ, ◌/◌, Bool, true, false, not, ◌&&◌, List, ◌++◌, length, drop, ◌==◌, nat_le, nat_lt, Result, Ok, Err}
+-- The two calls: the refusals in request Thirteen's order with their numbers, what is told, and what is left. A refusal leaves
+-- every lent byte.
+use Rattle.std.specs.Prelude.{◌≡◌, ℕ, ◌/◌, ◌%◌, ◌^◌, Bool, true, false, not, ◌&&◌, List, ◌++◌, length, drop, ◌==◌, nat_le, nat_lt, Option, None, Some, Result, Ok, Err}
 use Rattle.journal.specs.declared.Refusal.{Refusal}
 use Rattle.journal.specs.declared.Refusal.TheVariants.{ShortTarget, EmptyList, BadPage, BadParameter, BadLength, BadHeader, WrongPage}
+use Rattle.journal.specs.declared.Fault.{Fault}
+use Rattle.journal.specs.declared.Fault.TheVariants.{CutShort, BadSum}
 use Rattle.journal.specs.declared.Run.{Run}
 use Rattle.journal.specs.declared.Reply.{Reply}
-use Rattle.journal.specs.Answers.{reply_refused, reply_played}
 use Rattle.journal.specs.Layout.{is_size, is_sector, whole_pages, is_header}
 use Rattle.journal.specs.Playing.{run_of, to_restore, outside, restored}
 use Rattle.journal.specs.Writing.{any_past, journal_length, journal_bytes}
@@ -13,6 +15,29 @@ use Rattle.journal.specs.Writing.{any_past, journal_length, journal_bytes}
 pub record Outcome : Type 0 where
   pub reply : Reply
   pub bytes : List ℕ
+
+-- a refusal's number
+abbrev pub code_of : Refusal → ℕ
+code_of ShortTarget = 14
+code_of EmptyList = 15
+code_of BadPage = 20
+code_of BadParameter = 26
+code_of BadLength = 27
+code_of BadHeader = 29
+code_of WrongPage = 30
+
+-- what ended the records: 0 the header's count, 1 a record cut short, 2 a wrong checksum
+abbrev pub ended_of : Option Fault → ℕ
+ended_of None = 0
+ended_of (Some CutShort) = 1
+ended_of (Some BadSum) = 2
+
+-- the answers as C has them
+abbrev pub reply_refused : Refusal → Reply
+reply_refused r = record { code = code_of r; ended = 0; records = 0 }
+
+abbrev pub reply_played : Run → Reply
+reply_played r = record { code = 0; ended = ended_of r.ended; records = r.count % 2 ^ 32 }
 
 -- a refusal if the test holds, else what follows
 unfoldable pub refuse_if : {A : Type 0} → Bool → Refusal → Result A Refusal → Result A Refusal

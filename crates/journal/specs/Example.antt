@@ -1,6 +1,6 @@
 -- A worked example, by computation on the definitions: page size 512, sector size 32, nonce fffffff0, one page with byte j = j mod 256.
 use Rattle.std.specs.Prelude.{◌≡◌, ℕ, zero, suc, ◌+◌, ◌%◌, List, [], ◌∷◌, ◌++◌, length, take, replicate, slice_index, slice_set, refl}
-use Rattle.word.specs.Big.{big, bytes_of}
+use Rattle.word.specs.Word.{big, bytes_of}
 use Rattle.journal.specs.Layout.{first_bytes, is_size, is_sector, whole_pages, same, is_header, spaced, checksum, records, record_bytes, records_bytes, header_bytes}
 use Rattle.journal.specs.Playing.{counted, fault_of, run, run_of, to_restore, outside, with_saved, restored}
 use Rattle.journal.specs.Writing.{any_past, journal_bytes}

@@ -1,7 +1,7 @@
 -- SQLite's rollback journal by its bytes (docs/JOURNAL.md): a header in a sector of its own, then records of page number, page, checksum.
 -- Pages are numbered from 1 in the file. "All numbers 4 bytes, highest byte first": `big` and `bytes_of` of crate word.
 use Rattle.std.specs.Prelude.{ℕ, zero, suc, ◌+◌, ◌-◌, ◌/◌, ◌%◌, ◌^◌, Bool, true, false, ◌&&◌, ◌||◌, List, [], ◌∷◌, ◌++◌, length, take, drop, replicate, ◌==◌, nat_le, slice_index}
-use Rattle.word.specs.Big.{big, bytes_of}
+use Rattle.word.specs.Word.{big, bytes_of}
 use Rattle.record.specs.Part.{part}
 
 -- d9 d5 05 f9 20 a1 63 d7

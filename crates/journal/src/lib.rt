@@ -6,7 +6,7 @@ pub mod head;
 pub mod sum;
 
 ghost use Rattle.std.specs.Prelude.{◌≡◌};
-ghost use Rattle.journal.specs.Answers.{code_of, reply_refused, reply_played};
+ghost use Rattle.journal.specs.Calls.{code_of, reply_refused, reply_played};
 
 // Why a call is refused.
 #[derive(Clone, Copy, Debug, PartialEq, Eq)]

@@ -12,8 +12,7 @@ use Rattle.std.specs.Prelude.{Ok, Err}
 use Rattle.journal.specs.declared.Refusal.{Refusal}
 use Rattle.journal.specs.declared.Refusal.TheVariants.{BadParameter, BadLength, BadHeader}
 use Rattle.journal.specs.declared.Run.{Run}
-use Rattle.journal.specs.Answers.{reply_refused, reply_played}
-use Rattle.journal.specs.Calls.{judge_play, play_call, Told}
+use Rattle.journal.specs.Calls.{judge_play, play_call, Told, reply_refused, reply_played}
 use Rattle.journal.proofs.Laws.{header_tells}
 use Rattle.journal.proofs.Tells.{refused_by, passed_by, went_by, size_range}
 use Rattle.journalplay.specs.Seen.{seen}

@@ -16,7 +16,7 @@ use lib.Seq.{drop-drop, length-take-le}
 use lib.Dec.{ltb}
 use borrow.Author.Tests.{lt-ltb, le-ltb, ltb-false, eq-eqb, ne_eqb}
 use Rattle.record.specs.Part.{part}
-use Rattle.word.specs.Big.{big}
+use Rattle.word.specs.Word.{big}
 use Rattle.word.proofs.Bigs.{big_drop}
 use Rattle.journal.specs.Layout.{checksum, sum_of, records}
 use Rattle.journal.specs.Playing.{fault_of, go_on, run, is_outside, outside}

@@ -11,7 +11,7 @@ use lib.Dec.{eqb, ltb}
 use borrow.Author.Tests.{ltb-false, eqb-false}
 use Rattle.record.specs.Part.{part, with_part}
 use Rattle.record.proofs.Parts.{length_with}
-use Rattle.word.specs.Big.{big}
+use Rattle.word.specs.Word.{big}
 use Rattle.word.proofs.Bigs.{big_at}
 use Rattle.journal.specs.Layout.{saved_of, records}
 use Rattle.journal.specs.Playing.{is_outside, outside, with_saved, restored}
@@ -69,25 +69,21 @@ length_saved at size body pages whole some fits =
     let p : (n - 1) * size + size ≡ n * size = page_before n size some in
     length_with ((n - 1) * size) size pages (part 4 size (drop at body)) (omega arith) (image_length at size body whole)
 
--- the records behind the first i are still to be restored
-pub record Left (k size : ℕ) (body first : List ℕ) (i : ℕ) (pages : List ℕ) : Type 0 where
+-- the records from the place at on are still to be restored
+pub record Left (k size : ℕ) (body first : List ℕ) (i at : ℕ) (pages : List ℕ) : Type 0 where
   pub below : i ≤ k
-  pub room : (k - i) * (size + 8) + i * (size + 8) ≤ length body
-  pub inner : outside (length first / size) (records (k - i) size (drop (i * (size + 8)) body)) ≡ false
-  pub rest : restored size (records (k - i) size (drop (i * (size + 8)) body)) pages ≡ restored size (records k size body) first
+  pub room : (k - i) * (size + 8) + at ≤ length body
+  pub inner : outside (length first / size) (records (k - i) size (drop at body)) ≡ false
+  pub rest : restored size (records (k - i) size (drop at body)) pages ≡ restored size (records k size body) first
   pub long : length pages ≡ length first
 
 module _ (k size : ℕ) (body first : List ℕ) where
-  pub left_all : k * (size + 8) ≤ length body → outside (length first / size) (records k size body) ≡ false → Left k size body first 0 first
+  pub left_all : k * (size + 8) ≤ length body → outside (length first / size) (records k size body) ≡ false → Left k size body first 0 0 first
   left_all h o =
-      let z : 0 * (size + 8) ≡ 0 = omega arith in
       let e : k - 0 ≡ k = omega arith in
-      record { below = omega arith; room = rw (z, e) (omega arith); inner = rw (z, e) o; rest = rw (z, e); long = refl }
+      record { below = omega arith; room = rw e (omega arith); inner = rw e o; rest = rw e; long = refl }
 
-  module _ (i : ℕ) (pages : List ℕ) (a : Left k size body first i pages) where
-    abbrev at : ℕ
-    at = i * (size + 8)
-
+  module _ (i at : ℕ) (pages : List ℕ) (a : Left k size body first i at pages) where
     pub left_none : k ≤ i → pages ≡ restored size (records k size body) first
     unfolding records restored
     left_none h = let e : k - i ≡ 0 = omega arith in rw e at a.rest
@@ -113,18 +109,17 @@ module _ (k size : ℕ) (body first : List ℕ) where
           let e = a.long in
           (w.0, omega (arith, w.1))
 
-      pub left_turn : (pages' : List ℕ) → pages' ≡ with_saved size (saved_of size (drop at body)) pages → Left k size body first (i + 1) pages'
+      pub left_turn : (pages' : List ℕ) → pages' ≡ with_saved size (saved_of size (drop at body)) pages → Left k size body first (i + 1) (at + (size + 8)) pages'
       unfolding records restored
       left_turn pages' e =
           let r : suc (k - (i + 1)) * (size + 8) + at ≤ length body = rw one at a.room in
           let m : suc (k - (i + 1)) * (size + 8) ≡ (k - (i + 1)) * (size + 8) + (size + 8) = suc-mul (k - (i + 1)) (size + 8) in
           let d : drop (size + 8) (drop at body) ≡ drop (at + (size + 8)) body = drop-drop (size + 8) at body in
           let w = left_inside in
-          let n : (i + 1) * (size + 8) ≡ at + (size + 8) = omega arith in
           record {
             below = omega arith;
             room = omega arith;
-            inner = rw n (rw d at split.1);
-            rest = rw (n, ← d, e) (rw one at a.rest);
+            inner = rw d at split.1;
+            rest = rw (← d, e) (rw one at a.rest);
             long = ap length e ∙ length_saved at size body pages left_whole w.0 w.1 ∙ a.long;
           }

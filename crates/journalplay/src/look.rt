@@ -1,6 +1,6 @@
 // A look at the records of a journal's first header: nothing is written.
 ghost use Rattle.std.specs.Prelude.{◌≡◌, ◌+◌, ◌≤◌, length, drop};
-ghost use Rattle.word.specs.Big.{big};
+ghost use Rattle.word.specs.Word.{big};
 ghost use Rattle.journal.specs.Layout.{nonce_of};
 ghost use Rattle.journal.specs.Playing.{body_of, counted, fault_of, is_outside};
 ghost use Rattle.journalplay.specs.Seen.{seen};

@@ -1,6 +1,6 @@
 // Pages written back from records that have been looked at.
 ghost use Rattle.std.specs.Prelude.{◌≡◌, false, ◌+◌, ◌*◌, ◌/◌, ◌≤◌, ◌<◌, length, drop};
-ghost use Rattle.word.specs.Big.{big};
+ghost use Rattle.word.specs.Word.{big};
 ghost use Rattle.journal.specs.Layout.{saved_of, records};
 ghost use Rattle.journal.specs.Playing.{outside, with_saved, restored};
 

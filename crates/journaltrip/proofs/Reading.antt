@@ -8,7 +8,7 @@ use lib.ListN.{length, take, drop, length-append}
 use lib.Seq.{take_at, drop_at}
 use borrow.Author.Tests.{eq-eqb, le-ltb, le-leb}
 use Rattle.record.specs.Part.{part}
-use Rattle.word.specs.Big.{big, bytes_of}
+use Rattle.word.specs.Word.{big, bytes_of}
 use Rattle.word.proofs.Bigs.{big_front, big_drop, length_bytes}
 use Rattle.journal.specs.Layout.{first_bytes, count_of, nonce_of, sector_of, size_of, is_sector, same, is_header, checksum, Saved, saved_of, sum_of, records, record_bytes, records_bytes, header_bytes}
 use Rattle.std.specs.Prelude.{None}

@@ -7,7 +7,7 @@ use lib.ListN.{length, take, drop, replicate, length-append, length-drop}
 use lib.Seq.{take_at, drop_at, drop-drop, length-take-le}
 use Rattle.record.specs.Part.{with_part}
 use Rattle.record.proofs.Parts.{with_take, with_drop}
-use Rattle.word.specs.Big.{bytes_of}
+use Rattle.word.specs.Word.{bytes_of}
 use Rattle.word.proofs.Bigs.{length_bytes, stored_part, grow}
 use Rattle.journal.specs.Layout.{first_bytes, header_bytes, record_bytes, checksum}
 

@@ -18,8 +18,7 @@ use Rattle.std.specs.Prelude.{Ok, Err, None}
 use Rattle.journal.specs.declared.Refusal.{Refusal}
 use Rattle.journal.specs.declared.Reply.{Reply}
 use Rattle.journal.specs.declared.Refusal.TheVariants.{ShortTarget, EmptyList, BadPage, BadParameter, BadLength}
-use Rattle.journal.specs.Answers.{reply_refused, reply_played}
-use Rattle.journal.specs.Calls.{judge_write, write_call, Told}
+use Rattle.journal.specs.Calls.{judge_write, write_call, Told, reply_refused, reply_played}
 use Rattle.journal.proofs.Tells.{refused_by, passed_by, size_range, sector_range}
 use Rattle.journal.proofs.Writes.{fit, length_header, length_record, length_page}
 use Rattle.journalwrite.proofs.Fills.{behind}

@@ -1,7 +1,7 @@
 // A header, and a record, at their place in the target.
 ghost use Rattle.std.specs.Prelude.{◌≡◌, ◌++◌, ◌+◌, ◌≤◌, length, drop};
 ghost use Rattle.record.specs.Part.{with_part};
-ghost use Rattle.word.specs.Big.{bytes_of};
+ghost use Rattle.word.specs.Word.{bytes_of};
 ghost use Rattle.journal.specs.Layout.{first_bytes, header_bytes, record_bytes};
 
 // What a journal begins with.

@@ -1,15 +1,16 @@
 // The use order by value: a call that changes it takes self and hands the changed order back.
 #![tactic(auto)]
 
-ghost use Rattle.std.specs.Prelude.{◌≡◌, false, List, ◌++◌, ℕ, ◌≤◌, ◌<◌, length, get_or, take, replicate};
+ghost use Rattle.std.specs.Prelude.{◌≡◌, false, ◌++◌, ℕ, ◌≤◌, ◌<◌, length, get_or, take, replicate};
 ghost use Rattle.order.specs.Order.{named, without, touched, victim, frame_for};
 
 use number::FrameNo;
 use std::marker::Model;
 
-// The frames in use, the least recently used first: the first `used` slots.
+// The frames in use, the least recently used first: the first `used` slots. The others are zero, so that the list of the frames
+// says all of an order, and an order can be copied.
 // One slot more than there can be frames, so that a touch always has room.
-#[derive(Drop)]
+#[derive(Clone, Copy)]
 pub struct Order {
     slots: [u8; 65],
     used: usize,
@@ -17,11 +18,21 @@ pub struct Order {
 
 // Clauses see the frames in use.
 impl Model for Order {
+    ghost use Rattle.std.specs.Prelude.{◌≡◌, List, ℕ, ◌++◌, ◌-◌, ◌≤◌, length, take, drop, replicate};
+    ghost use Rattle.std.proofs.Common.{ap, sym, ◌∙◌, take-append-drop, length-take-le};
+
     ghost Value = { List ℕ };
 
     ghost view = { λ o. take o.used o.slots };
 
-    ghost invariant = { λ o. o.used ≤ 65 };
+    ghost invariant = { λ o. (length o.slots ≡ 65) × (o.used ≤ length o.slots) × (drop o.used o.slots ≡ replicate (65 - o.used) 0) };
+
+    ghost inverse = { λ l. record { slots = l ++ replicate (65 - length l) 0; used = length l } };
+
+    ghost inverse_ok = { λ o h i. record {
+      slots = (ap (λ n. take o.used o.slots ++ replicate (65 - n) 0) (length-take-le o.used o.slots h.1) ∙ ap (λ l. take o.used o.slots ++ l) (sym h.2) ∙ take-append-drop o.used o.slots) i;
+      used = length-take-le o.used o.slots h.1 i;
+    } };
 }
 
 // The order that the first `used` bytes of a table hold.
@@ -43,7 +54,7 @@ impl Order {
     }
 
     // The frame at a place, 0 past the end.
-    fn at(&self, i: usize) -> u8
+    pub fn at(&self, i: usize) -> u8
         ensures { result ≡ get_or self.now i 0 }
     {
         if i < self.used { self.slots[i] } else { 0 }
@@ -60,6 +71,9 @@ impl Order {
         for g in &self.slots[..self.used] {
             slots[kept] = *g;
             kept += usize::from(usize::from(*g) != f.0);
+        }
+        if kept < 65 {
+            slots[kept] = 0;
         }
         Order { slots, used: kept }
     }

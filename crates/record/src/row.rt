@@ -6,10 +6,10 @@ ghost use Rattle.record.specs.Record.{log_width, online_width, page_of, offset_o
 use number::{LogNo, PageNo};
 
 // A row of the log: the record alone.
-pub type LogRow = [u8; 14];
+pub type LogRow = [u8; crate::LOG_WIDTH];
 
 // A row of the online table: owner and number stand behind the record.
-pub type OnlineRow = [u8; 19];
+pub type OnlineRow = [u8; crate::ONLINE_WIDTH];
 
 // The first m rows of a table.
 #[tactic(auto, using(crate::proofs::Listed::listed))]

@@ -19,7 +19,7 @@ use Rattle.rules.proofs.Every.{every_imp}
 use Rattle.rules.specs.Shape.{page_below}
 use Rattle.restart.specs.Enter.{enters_by, entering_by, first_by, all_by, Readable, Restartable}
 
--- `enters_row`: a row above the checkpoint number goes by its page's stamp, another by the dirty number too
+-- `enters`: a row above the checkpoint number goes by its page's stamp, another by the dirty number too
 pub enters_new : (marks b : List ℕ) (pages k p closed stamp : ℕ) → p ≡ page_of b → stamp ≡ num 4 marks (stamp_at p) → closed ≡ num 4 marks 4 → closed < k
     → not (leb k stamp) ≡ enters_by marks pages k b
 enters_new marks b pages k p closed stamp e h f lt =

@@ -117,7 +117,7 @@ fn read_records<'a>(fixed: &[u8], marks: &'a [u8], log: &'a [u8]) -> Records<'a>
     ensures pages { result.pages ≡ pages_in fixed.now }
 {
     let pages = word::load(fixed, layout::PAGES_AT, 4) as usize;
-    let rows = row::first_rows::<14>(log, read::logged_of(marks));
+    let rows = row::first_rows::<{ record::LOG_WIDTH }>(log, read::logged_of(marks));
     let first = read::first_of(marks);
     Records {
         marks,

@@ -106,7 +106,12 @@ fn take_back(tables: &mut [u8], online: &mut [u8], frames: usize, m: usize, size
     ensures { (tables.new ≡ set (with_count (length (keep (stays true owner 0) (rows online_width m online.old 0))) (with_order frames (frames_freed frames tables.old (keep (owned_by owner) (rows online_width m online.old 0)) (part order_at (used_in tables.old) tables.old)) (judged_anew frames (keep (stays true owner 0) (rows online_width m online.old 0)) (keep (owned_by owner) (rows online_width m online.old 0)) tables.old))) (live_at owner) 0)
         × (online.new ≡ table online_width size (keep (stays true owner 0) (rows online_width m online.old 0))) }
 {
-    take_pages(tables, row::first_rows::<19>(online, m), frames, owner);
+    take_pages(
+        tables,
+        row::first_rows::<{ record::ONLINE_WIDTH }>(online, m),
+        frames,
+        owner,
+    );
     let left = table::delete(online, 0, m, m, size, owner, None);
     word::store(tables, layout::COUNT_AT, 2, left as u64);
     let at = layout::LIVE_AT + usize::from(owner);

@@ -81,7 +81,10 @@ pub fn judge_read(lent: &Areas<'_>, room: usize, x: u32, p: u32, offset: u32, w:
 {
     check_sound(lent)?;
     let given = layout::params_of(lent.fixed);
-    let online = row::first_rows::<19>(lent.online, read::count_of(lent.tables));
+    let online = row::first_rows::<{ record::ONLINE_WIDTH }>(
+        lent.online,
+        read::count_of(lent.tables),
+    );
     judge::may_read(
         given.size as usize,
         given.pages as usize,
@@ -109,7 +112,10 @@ pub fn judge_update(
 {
     check_sound(lent)?;
     let given = layout::params_of(lent.fixed);
-    let online = row::first_rows::<19>(lent.online, read::count_of(lent.tables));
+    let online = row::first_rows::<{ record::ONLINE_WIDTH }>(
+        lent.online,
+        read::count_of(lent.tables),
+    );
     judge::may_update(
         given.size as usize,
         given.pages as usize,
@@ -136,7 +142,10 @@ pub fn judge_commit(lent: &Areas<'_>, x: u32) -> Verdict
     if 32 < x {
         return Err(Refusal::Argument(Bad::Number));
     }
-    let online = row::first_rows::<19>(lent.online, read::count_of(lent.tables));
+    let online = row::first_rows::<{ record::ONLINE_WIDTH }>(
+        lent.online,
+        read::count_of(lent.tables),
+    );
     let k = table::count_owned(online, x as u8);
     judge::may_commit(given.log as usize, n, last.0, lent.tables, k, x)
 }

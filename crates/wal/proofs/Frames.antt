@@ -4,7 +4,7 @@ use Rattle.std.proofs.lemmas.Bool.Decides.{nat_tests}
 use Rattle.wal.specs.declared.Sums.{Sums}
 use Rattle.wal.specs.declared.Header.{Header}
 use Rattle.wal.specs.declared.Seen.{Seen}
-use Rattle.word.specs.Big.{big as field}
+use Rattle.word.specs.Word.{big as field}
 use Rattle.wal.specs.Layout.{frame_size, frame_sums, is_valid, seen, frame_at, frames_from}
 
 -- what a look says

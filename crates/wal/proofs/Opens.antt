@@ -3,7 +3,7 @@ use Rattle.std.proofs.Common.{◌≡◌, ℕ, ◌*◌, ◌/◌, ◌≤◌, true,
 use Rattle.std.proofs.lemmas.Bool.Decides.{nat_tests}
 use Rattle.word.proofs.Tests.{and_both}
 use Rattle.wal.specs.declared.Header.{Header}
-use Rattle.word.specs.Big.{big as field}
+use Rattle.word.specs.Word.{big as field}
 use Rattle.wal.specs.Layout.{magic_of, version, is_page_size, is_header, head_in, opened}
 
 -- a page size is from 512 to 65,536, and whole pairs of words

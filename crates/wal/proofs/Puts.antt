@@ -1,9 +1,8 @@
 -- Fields written one behind the other, and the sums of what was written.
 use Rattle.std.proofs.Common.{◌≡◌, ℕ, zero, suc, ◌+◌, ◌*◌, ◌/◌, ◌≤◌, Bool, true, false, List, [], ◌∷◌, ◌++◌, length, get_or, take, drop, sym, refl, ap, ◌∙◌, append_assoc, arith, length-append, length-take-le, get_or-drop, drop-drop}
-use Rattle.word.specs.Word.{num}
+use Rattle.word.specs.Word.{num, big as field, bytes_of}
 use Rattle.wal.specs.declared.Sums.{Sums}
 use Rattle.wal.specs.declared.Header.{Header}
-use Rattle.word.specs.Big.{big as field, bytes_of}
 use Rattle.word.proofs.Bigs.{big_drop, grow}
 use Rattle.wal.specs.Sum.{fields_of, word_at, no_sums, paired, summed}
 use Rattle.wal.specs.Layout.{magic_of, version, frame_sums}

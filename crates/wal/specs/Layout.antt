@@ -5,7 +5,7 @@ use Rattle.wal.specs.declared.Header.{Header}
 use Rattle.wal.specs.declared.BadHeader.{BadHeader}
 use Rattle.wal.specs.declared.BadHeader.TheVariants.{Field, Sum}
 use Rattle.wal.specs.declared.Seen.{Seen}
-use Rattle.word.specs.Big.{big as field}
+use Rattle.word.specs.Word.{big as field}
 use Rattle.wal.specs.Sum.{no_sums, summed}
 
 -- 377f0682: the words are summed lowest byte first; 377f0683: highest byte first

@@ -1,7 +1,6 @@
 -- Numbers in SQLite's write-ahead log, and the running sums over it.
 use Rattle.std.specs.Prelude.{ℕ, zero, suc, ◌+◌, ◌%◌, ◌^◌, Bool, cond, List, [], ◌∷◌, ◌++◌}
-use Rattle.word.specs.Word.{num}
-use Rattle.word.specs.Big.{big as field, bytes_of}
+use Rattle.word.specs.Word.{num, big as field, bytes_of}
 use Rattle.wal.specs.declared.Sums.{Sums}
 
 -- fields, one behind the other: each four bytes, highest byte first

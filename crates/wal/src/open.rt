@@ -1,6 +1,6 @@
 // A log opened: its header, and a frame looked at.
 ghost use Rattle.std.specs.Prelude.{◌≡◌, ◌+◌, ◌≤◌, ◌&&◌, length, ◌==◌};
-ghost use Rattle.word.specs.Big.{big as field};
+ghost use Rattle.word.specs.Word.{big as field};
 ghost use Rattle.wal.specs.Layout.{is_page_size, is_header, head_in, holds_sums, opened, frame_size, frame_sums, seen};
 
 use crate::{BIG_MAGIC, BadHeader, Header, LITTLE_MAGIC, Seen, Sums, VERSION};

@@ -14,7 +14,7 @@ use Rattle.wal.specs.declared.Sums.{Sums}
 use Rattle.wal.specs.declared.Header.{Header}
 use Rattle.wal.specs.Layout.{Frame, frame_size, frame_sums, is_valid, frame_at, frames_from, opened, valid_frames}
 use Rattle.std.specs.Prelude.{Option, None, Some, Ok, unwrap_or}
-use Rattle.word.specs.Big.{big as field}
+use Rattle.word.specs.Word.{big as field}
 use Rattle.wal.proofs.Opens.{good_parts, good_size}
 use Rattle.waljudge.specs.declared.Pass.{Pass}
 use Rattle.waljudge.specs.Pass.{started, taken, passed}

@@ -1,7 +1,6 @@
 -- The worked examples of docs/WAL.md, decided by computation on the definitions that the promises cite.
 use Rattle.std.specs.Prelude.{ℕ, zero, suc, ◌+◌, ◌≡◌, refl, true, false, List, [], ◌∷◌, ◌++◌}
-use Rattle.word.specs.Word.{num}
-use Rattle.word.specs.Big.{big as field, bytes_of}
+use Rattle.word.specs.Word.{num, big as field, bytes_of}
 use Rattle.record.specs.Rows.{any}
 use Rattle.wal.specs.Sum.{fields_of, word_at, no_sums, paired, summed}
 use Rattle.wal.specs.Layout.{is_page_size, is_header, head_in, opened, frame_sums, is_valid, frames_from, valid_frames}

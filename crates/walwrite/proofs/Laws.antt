@@ -9,13 +9,13 @@ use mathlib.Core.List.{List, [], ◌∷◌, ◌++◌, append_assoc, append-nil}
 use lib.ListN.{length, get_or, take, drop, length-append, length-drop, drop_of_length-le, take-append-drop}
 use lib.Seq.{drop-cons, take_at, drop_at, drop-drop, length-take-le}
 use lib.Dec.{eqb, leb, ltb}
-use borrow.Author.Tests.{ltb-true, ltb-false, lt-ltb, leb-true, eqb-false}
+use borrow.Author.Tests.{ltb-true, ltb-false, lt-ltb, le-ltb, leb-true, eqb-false}
 use Rattle.word.proofs.Tests.{so, not_so}
 use Rattle.record.specs.Part.{with_part}
 use Rattle.record.specs.Rows.{cons_if, keep}
 use Rattle.std.specs.Prelude.{Option, MatchOption, Ok, Err, Some, None, is_some, position}
 use Rattle.std.proofs.Math.Seq.{take-length}
-use Rattle.std.specs.List.{list_all, position_or_len}
+use Rattle.std.specs.List.{position_or_len}
 use Rattle.std.proofs.lemmas.List.{drop_more}
 use Rattle.std.proofs.lemmas.List.Quantifiers.{position-Some}
 use Rattle.record.proofs.Changes.{applied_keep}
@@ -33,7 +33,7 @@ use Rattle.wal.specs.declared.Sums.{Sums}
 use Rattle.wal.specs.declared.Header.{Header}
 use Rattle.wal.specs.Sum.{fields_of}
 use Rattle.wal.specs.Written.{head_fields, head_of, head_bytes, image_sums, frame_bytes, commit_before, frames_bytes, written}
-use Rattle.word.specs.Big.{bytes_of}
+use Rattle.word.specs.Word.{bytes_of}
 use Rattle.word.proofs.Bigs.{grow}
 use Rattle.walwrite.specs.declared.Why.{Why}
 use Rattle.walwrite.specs.declared.Why.TheVariants.{Store, ShortTarget, EmptyList}
@@ -45,10 +45,23 @@ rest : (l : List ℕ) (i : ℕ) → i < length l → drop i l ≡ get_or l i 0 �
 rest l i h = drop-cons l i 0 h ∙ ap (λ (k : ℕ). get_or l i 0 ∷ drop k l) (sym (add-one i))
 
 -- `all_below`
-pub all_every : (b : ℕ → Bool) (l : List ℕ) → list_all b l ≡ every b l
+pub below_turn : (pages i : ℕ) (l : List ℕ) (t : Bool) → i < length l → get_or l i 0 < pages → listed pages (drop i l) ≡ t → listed pages (drop (i + 1) l) ≡ t
 unfolding every
-all_every b [] = refl
-all_every b (x ∷ l) = ap (λ (t : Bool). b x && t) (all_every b l)
+below_turn pages i l t h k inv = go (rw (rest l i h) at inv)
+  where
+    go : (ltb (get_or l i 0) pages && listed pages (drop (i + 1) l)) ≡ t → listed pages (drop (i + 1) l) ≡ t
+    go e = rw (lt-ltb (get_or l i 0) pages k) at e
+
+pub below_stop : (pages i : ℕ) (l : List ℕ) (t : Bool) → i < length l → pages ≤ get_or l i 0 → listed pages (drop i l) ≡ t → false ≡ t
+unfolding every
+below_stop pages i l t h k inv = go (rw (rest l i h) at inv)
+  where
+    go : (ltb (get_or l i 0) pages && listed pages (drop (i + 1) l)) ≡ t → false ≡ t
+    go e = rw (le-ltb (get_or l i 0) pages k) at e
+
+pub below_done : (pages i : ℕ) (l : List ℕ) (t : Bool) → length l ≤ i → listed pages (drop i l) ≡ t → true ≡ t
+unfolding every
+below_done pages i l t h inv = rw (drop_of_length-le l h) at inv
 
 -- `next_of`: rows that fail a test are passed by, up to the end
 module _ (b t : List ℕ → Bool) (fails : (r : List ℕ) → t r ≡ false → b r ≡ false) where

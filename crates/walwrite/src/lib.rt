@@ -30,8 +30,8 @@ pub enum Why {
 impl From<Refusal> for Why {
     ghost from_gives = { λ r w. w ≡ Store r };
 
-    fn from(r: Refusal) -> Why {
-        Why::Store(r)
+    fn from(refusal: Refusal) -> Why {
+        Why::Store(refusal)
     }
 }
 
@@ -58,7 +58,12 @@ impl From<Why> for Reply {
 fn all_below(list: &[u32], pages: u32) -> bool
     ensures { result ≡ listed pages list.now }
 {
-    list.iter().all(|p| *p < pages)
+    for p in list {
+        if pages <= *p {
+            return false;
+        }
+    }
+    true
 }
 
 // The refusals after soundness.
@@ -224,7 +229,7 @@ pub fn ventarico_wal_write(
                 size: given.size as usize,
                 count: given.pages as u32,
                 stored,
-                online: row::first_rows::<19>(online, read::count_of(tables)),
+                online: row::first_rows::<{ record::ONLINE_WIDTH }>(online, read::count_of(tables)),
             };
             write_log(target, &pages, list, salt_1, salt_2, sequence, order == 1);
             Reply::from(Answer::Done(Counts {

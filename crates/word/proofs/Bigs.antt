@@ -2,7 +2,7 @@
 use Rattle.std.proofs.Common.{◌≡◌, ℕ, suc, ◌+◌, ◌*◌, ◌/◌, ◌%◌, ◌<◌, ◌≤◌, List, ◌++◌, length, get_or, take, drop, set, sym, refl, ap, ◌∙◌, append_assoc, arith, get_or-drop, drop-drop, take_at, drop_at}
 use native.Mathlib.Nat.{div-div-eq-div-mul}
 use lib.Seq.{sets-eq}
-use Rattle.word.specs.Big.{big, bytes_of}
+use Rattle.word.specs.Word.{big, bytes_of}
 
 -- `store`: four bytes in a row
 pub stored : (l b : List ℕ) (at v : ℕ) → at + 4 ≤ length l → b ≡ bytes_of v

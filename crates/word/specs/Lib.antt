@@ -1,3 +1,2 @@
 -- What the contracts of `word` cite.
-pub mod Big
 pub mod Word

@@ -1,9 +1,9 @@
 // Numbers of 4 bytes, highest byte first.
 ghost use Rattle.std.specs.Prelude.{◌≡◌, ◌+◌, ◌≤◌, ◌++◌, length, take, drop};
-ghost use Rattle.word.specs.Big.{big, bytes_of};
+ghost use Rattle.word.specs.Word.{big, bytes_of};
 
 // The number at a place.
-#[tactic(auto, unfolding(crate::specs::Big::big))]
+#[tactic(auto, unfolding(crate::specs::Word::big))]
 pub fn load(s: &[u8], at: usize) -> u32
     requires { at + 4 ≤ length s.now }
     ensures { result ≡ big s.now at }
@@ -12,7 +12,7 @@ pub fn load(s: &[u8], at: usize) -> u32
 }
 
 // The number v at a place; nothing else changes.
-#[tactic(auto, using(crate::proofs::Bigs::stored), unfolding(crate::specs::Big::bytes_of))]
+#[tactic(auto, using(crate::proofs::Bigs::stored), unfolding(crate::specs::Word::bytes_of))]
 pub fn store(s: &mut [u8], at: usize, v: u32)
     requires { at + 4 ≤ length s.old }
     ensures { s.new ≡ take at s.old ++ (bytes_of v ++ drop (at + 4) s.old) }

@@ -1,11 +1,11 @@
-use Rattle.std.proofs.Common.{ℕ, ltb, ◌∙◌, rules, tests}
-use Rattle.std.proofs.lemmas.Iterator.{YieldsList-from_slice}
-use Rattle.std.proofs.lemmas.Iterator.Search.{all_from_yields_List}
-use Rattle.walwrite.proofs.Laws.{all_every}
+use Rattle.walwrite.proofs.Laws.{below_turn, below_stop, below_done}
 use Rattle.walwrite.proofs.all_below.Goals as goal
 
+pub returns-then-pages-p : goal.returns-then-pages-p
+returns-then-pages-p c = below_stop _ _ _ _ c.loop-p-test.true c.if-pages-p.true c.loop-p.invariant
+
+pub loop-p-preserved : goal.loop-p-preserved
+loop-p-preserved c = below_turn _ _ _ _ c.loop-p-test.true c.if-pages-p.false c.loop-p.invariant
+
 pub returns : goal.returns
-returns c =
-    let a = c.args in
-    all_from_yields_List (λ (p : ℕ). ltb p a.pages) _ _ _ c.all.ensures.ran (YieldsList-from_slice a.list.now c.iter.ensures.rest) (λ x b q k. search (rules, tests))
-    ∙ all_every (λ (p : ℕ). ltb p a.pages) a.list.now
+returns c = below_done _ _ _ _ c.loop-p-test.false c.loop-p.invariant
